@@ -1,0 +1,27 @@
+-- Laws of the definitions.
+use Rattle.std.specs.Prelude.{◌≡◌, ℕ, List, [], ◌∷◌, ◌++◌, ◌↔◌, Some}
+use Rattle.wb_syntax.specs.Grammar.{Grammar, Reads}
+use Rattle.wb_syntax.specs.Syntax.{Module, Instr, End, Code}
+use Rattle.wb_syntax.specs.Nesting.{flat, IsProper, IsWellNested, nested}
+use Rattle.wb_syntax.specs.Binary.{Encodes, decoded, IsModule}
+
+-- reading finds each spelling, whatever follows it, and reads spellings alone
+pub record IsLawful {A : Type 0} (g : Grammar A) : Type 0 where
+  pub finds : (x : A) (front back : List ℕ) → g.Is x front → g.read (front ++ back) ≡ Reads x back
+  pub only : (x : A) (bytes left : List ℕ) → g.read bytes ≡ Reads x left → (front : List ℕ) × g.Is x front × (bytes ≡ front ++ left)
+
+-- bytes are a module's by the grammar exactly where they are read as it
+abbrev pub DecodedExactly : Type 0
+DecodedExactly = (m : Module) (bytes : List ℕ) → Encodes m bytes ↔ (decoded bytes ≡ IsModule m)
+
+-- each list of bytes is at most one module's
+abbrev pub EncodesOne : Type 0
+EncodesOne = (m n : Module) (bytes : List ℕ) → Encodes m bytes → Encodes n bytes → m ≡ n
+
+-- the nested code of a body is the one code that is written out as it
+abbrev pub NestedExactly : Type 0
+NestedExactly = (body : List Instr) (c : Code) → (nested body ≡ Some c) ↔ (IsProper c × (body ≡ flat c ++ End ∷ []))
+
+-- the bodies that the binary format has are those of nested code
+abbrev pub WellNestedExactly : Type 0
+WellNestedExactly = (body : List Instr) → IsWellNested body ↔ ((c : Code) × (nested body ≡ Some c))

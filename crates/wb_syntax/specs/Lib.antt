@@ -1,0 +1,11 @@
+pub mod Syntax
+pub mod Nesting
+pub mod Table
+pub mod Numbers
+pub mod Grammar
+pub mod Binary
+pub mod Typing
+pub mod Execute
+pub mod Runs
+pub mod Samples
+pub mod Laws
