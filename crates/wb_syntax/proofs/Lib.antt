@@ -1,14 +1,18 @@
-mod NumberRows
-mod ReadRows
-mod RunRows
-mod OracleRows
+-- every grammar reads what it spells, and a module is read exactly where its bytes are a spelling
 mod Lawful
 mod NumbersLawful
 mod SignedLawful
 mod BinaryLawful
 pub mod Decoding
+-- nested code and flat bodies
 pub mod Nests
-pub mod Typed
-mod TypingRows
 pub mod WellNested
-mod GrowRows
+pub mod Typed
+-- more steps change nothing of a run that has ended
+pub mod Longer
+-- worked examples
+mod Samples
+mod ReadExamples
+mod TypingExamples
+mod NumberExamples
+mod RunExamples

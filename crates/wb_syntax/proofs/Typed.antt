@@ -4,6 +4,7 @@ use Rattle.std.specs.Prelude.{List, [], Some, None}
 use Rattle.wb_syntax.specs.Syntax.{NumType, Instr, Block, Loop, If, Else, End, Nested, Plain, InBlock, InLoop, InIf, InIfElse, Code, Nothing, Then, Module, Func, list_of}
 use Rattle.wb_syntax.specs.Nesting.{IsSimple, IsProperOne, IsProper, nested}
 use Rattle.wb_syntax.specs.Typing.{Context, inside, Types, TypesOne, IsPlain, IsTypedBody, context_of}
+use Rattle.wb_syntax.specs.Laws.{TypedIsProper}
 use Rattle.wb_syntax.proofs.Nests.{nested_exactly}
 
 plain_simple : (c : Context) (i : Instr) (a b : List NumType) → IsPlain c i a b → IsSimple i
@@ -29,3 +30,6 @@ mutual
 -- the code of a typed body is its nested code
 pub typed_nested : (m : Module) (f : Func) (t : IsTypedBody m f) → nested f.body ≡ Some t.code
 typed_nested m f t = (nested_exactly f.body t.code).1 (typed_proper (context_of m f t.type) t.code [] (list_of t.type.result) t.typed, t.nests)
+
+pub typed_is_proper : TypedIsProper
+typed_is_proper m f t = (typed_proper (context_of m f t.type) t.code [] (list_of t.type.result) t.typed, typed_nested m f t)

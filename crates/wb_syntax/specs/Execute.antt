@@ -35,11 +35,13 @@ pub record Frame : Type 0 where
   -- from that place on, so that it begins with no constant
   pub code : Code
 
+-- a state: the frame that is run, the frames that wait for it, the innermost first, and the store
 pub record Config : Type 0 where
   pub frame : Frame
   pub callers : List Frame
   pub store : TheStore
 
+-- why a run traps
 pub data TrapKind : Type 0 where
   Unreached : TrapKind
   DivideByZero : TrapKind
@@ -55,9 +57,11 @@ pub data Move : Type 0 where
 
 -- ---- words and types
 
+-- a word of this type with these bits
 abbrev pub word : NumType → ℕ → Word
 word t n = record { type = t; bits = n }
 
+-- two types are one
 abbrev pub same_type : NumType → NumType → Bool
 same_type I32 I32 = true
 same_type I64 I64 = true
@@ -69,35 +73,42 @@ have_types [] [] = true
 have_types (t ∷ ts) (w ∷ ws) = same_type t w.type && have_types ts ws
 have_types _ _ = false
 
+-- the first words of locals (4.4.7)
 abbrev pub zeros : List NumType → List Word
 zeros ts = map (λ t. word t 0) ts
 
--- the topmost word, of this type
+-- the topmost word, which has to be of this type
 abbrev pub pop : NumType → List Word → (ℕ → List Word → Move) → Move
 pop t [] next = NoRule
 pop t (w ∷ ws) next = elim (same_type t w.type) [ true ↦ next w.bits ws | false ↦ NoRule ]
 
+-- the topmost word, of any type
 abbrev pub pop_any : List Word → (Word → List Word → Move) → Move
 pop_any [] next = NoRule
 pop_any (w ∷ ws) next = next w ws
 
+-- only where this holds
 abbrev pub when : Bool → Move → Move
 when t next = elim t [ true ↦ next | false ↦ NoRule ]
 
+-- only where there is one
 abbrev pub where_some : {A : Type 0} → Option A → (A → Move) → Move
 where_some None next = NoRule
 where_some (Some x) next = next x
 
--- ---- memory (4.2.8): bytes, the number's lowest first
+-- ---- memory (4.2.8): bytes, a number's lowest first (4.3.1)
 
+-- the number that these bytes store
 abbrev pub number_of : List ℕ → ℕ
 number_of [] = 0
 number_of (b ∷ bs) = b + 256 * number_of bs
 
+-- so many bytes that store the low end of a number
 abbrev pub bytes_of : (count n : ℕ) → List ℕ
 bytes_of zero n = []
 bytes_of (suc k) n = n % 256 ∷ bytes_of k (n / 256)
 
+-- bytes with others written over them from an index on
 abbrev pub overwrite : List ℕ → ℕ → List ℕ → List ℕ
 overwrite bytes at new = take at bytes ++ (new ++ drop (at + length new) bytes)
 
@@ -106,11 +117,13 @@ abbrev pub extended : NumType → Extension → (bits n : ℕ) → ℕ
 extended t Unsigned bits n = n
 extended t Signed bits n = elim (nat_lt n (2 ^ (bits - 1))) [ true ↦ n | false ↦ n + (2 ^ bits_of t - 2 ^ bits) ]
 
+-- the bytes of a page (4.2.8)
 abbrev pub page : ℕ
 page = 65536
 
--- ---- constants are words, and take no step
+-- ---- constants are values (4.4.1), and take no step
 
+-- the words and the code of a place, moved past the constants that begin the code
 abbrev pub settle : List Word → Code → List Word × Code
 settle ws Nothing = (ws, Nothing)
 settle ws (Then (Plain (I32Const z)) c) = settle (word I32 (unsigned I32 z) ∷ ws) c
@@ -125,37 +138,43 @@ settle ws (Then (InIfElse t b d) c) = (ws, Then (InIfElse t b d) c)
 abbrev pub placed_at : Frame → List Word → Code → Frame
 placed_at f ws c = let s = settle ws c in record f { stack = s.0; code = s.1 }
 
+-- a step to this place of the same frame
 abbrev pub goes_at : Config → List Word → Code → Move
 goes_at c ws code = Goes (record c { frame = placed_at c.frame ws code })
 
 -- ---- numeric instructions (4.4.1), by the table
 
+-- a step that yields a word of this type, or the trap of the operation
 abbrev pub gives : Config → List Word → Code → NumType → Numeric → Move
 gives c ws rest t (Yields n) = goes_at c (word t n ∷ ws) rest
 gives c ws rest t ByZero = Traps DivideByZero c.store
 gives c ws rest t TooLarge = Traps Overflow c.store
 
+-- an operation with one operand
 abbrev pub run_unary : Config → List Word → Code → Row → Move
 run_unary c ws rest (Takes1 t r op) = pop t ws (λ a vs. goes_at c (word r (unary_of t op a) ∷ vs) rest)
 run_unary c ws rest _ = NoRule
 
+-- an operation with two operands, the second on top
 abbrev pub run_binary : Config → List Word → Code → Row → Move
 run_binary c ws rest (Takes2 t r op) = pop t ws (λ b vs. pop t vs (λ a us. gives c us rest r (binary_of t op a b)))
 run_binary c ws rest _ = NoRule
 
 -- ---- variable instructions (4.4.3)
 
--- x is taken, and may stay on the stack
+-- local x is set, to a word of its type; what stays on the stack is given
 abbrev pub set_local : Config → ℕ → Word → List Word → Code → Move
 set_local c x w ws rest = where_some (slice_get c.frame.locals x) (λ v. when (same_type v.type w.type)
     (let d = record c { frame = record c.frame { locals = slice_set c.frame.locals x w } } in goes_at d ws rest))
 
+-- global x is set, to a word of its type
 abbrev pub set_global : Config → ℕ → Word → List Word → Code → Move
 set_global c x w ws rest = where_some (slice_get c.store.globals x) (λ v. when (same_type v.type w.type)
     (let d = record c { store = record c.store { globals = slice_set c.store.globals x w } } in goes_at d ws rest))
 
 -- ---- memory instructions (4.4.4): an access that ends past the memory traps
 
+-- a load at base + offset, of the bytes and the sign that its row has
 abbrev pub run_load : Config → (offset base : ℕ) → List Word → Code → Row → List ℕ → Move
 run_load c offset base ws rest (Loads t n e) memory = elim (nat_le (base + offset + n) (length memory)) [
   | true ↦ goes_at c (word t (extended t e (8 * n) (number_of (take n (drop (base + offset) memory)))) ∷ ws) rest
@@ -163,9 +182,11 @@ run_load c offset base ws rest (Loads t n e) memory = elim (nat_le (base + offse
 ]
 run_load c offset base ws rest _ memory = NoRule
 
+-- the state with this memory
 abbrev pub with_memory : Config → List ℕ → Config
 with_memory c memory = record c { store = record c.store { memory = Some memory } }
 
+-- a store at base + offset: the value is on top, the base below it
 abbrev pub run_store : Config → (offset : ℕ) → List Word → Code → Row → List ℕ → Move
 run_store c offset ws rest (Stores t n) memory = pop t ws (λ value vs. pop I32 vs (λ base us.
     elim (nat_le (base + offset + n) (length memory)) [
@@ -183,23 +204,24 @@ grow room c pages ws rest memory =
       | false ↦ goes_at c (word I32 (2 ^ 32 - 1) ∷ ws) rest
     ]
 
--- ---- labels and frames (4.4.5 to 4.4.7)
+-- ---- labels and frames (4.4.5 to 4.4.7, 4.2.12)
 
--- a construct is entered in one step
+-- a construct is entered in one step (4.4.6)
 abbrev pub enter : Config → (branch : Code) → (carries : ℕ) → (body after : Code) → (below : List Word) → Move
 enter c branch carries body after below =
     let f = record c.frame { labels = record { carries = carries; branch = branch; after = after; below = below } ∷ c.frame.labels } in
     Goes (record c { frame = placed_at f [] body })
 
--- a frame is left in one step
+-- a frame is left in one step (4.4.7)
 abbrev pub leave_frame : Config → (results : List Word) → List Frame → Move
 leave_frame c results [] = Finishes results c.store
 leave_frame c results (f ∷ fs) = Goes (record c { frame = placed_at f (results ++ f.stack) f.code; callers = fs })
 
+-- return: the frame is left with its results, whatever else is on the stack
 abbrev pub return : Config → List Word → Move
 return c ws = when (nat_le c.frame.results (length ws)) (leave_frame c (take c.frame.results ws) c.callers)
 
--- to this code, outside the innermost label, the labels further out left
+-- the innermost label is left with these words, for this code; ls are the labels around it
 abbrev pub leave_label : Config → Label → List Label → (words : List Word) → Code → Move
 leave_label c l ls words code =
     let d = record c { frame = record c.frame { labels = ls } } in
@@ -217,15 +239,17 @@ abbrev pub at_end : Config → List Label → Move
 at_end c [] = when (length c.frame.stack == c.frame.results) (leave_frame c c.frame.stack c.callers)
 at_end c (l ∷ ls) = leave_label c l ls c.frame.stack l.after
 
--- a call makes the frame and enters the body in one step; the arguments are on the stack, the last one on top
+-- the frame of a call (4.4.7), before the body's first step: its locals are the arguments, then zeros
 abbrev pub frame_of : Func → FuncType → (arguments : List Word) → Code → Frame
 frame_of f ft arguments body =
     let empty : Frame = record { locals = arguments ++ zeros (expanded f.locals); results = length (list_of ft.result); labels = []; stack = []; code = Nothing } in
     placed_at empty [] body
 
+-- the type of a function, where there is one
 abbrev pub type_of : Module → Func → Option FuncType
 type_of m f = slice_get m.types f.ty
 
+-- a call of a function by its index makes the frame and enters the body in one step; the last argument is on top
 abbrev pub call : Module → Config → (func : ℕ) → List Word → Code → Move
 call m c x ws rest = where_some (slice_get m.funcs x) (λ f. where_some (type_of m f) (λ ft. where_some (nested f.body) (λ body.
     let n = length ft.params in
@@ -240,7 +264,7 @@ abbrev pub chosen : List ℕ → ℕ → ℕ → ℕ
 chosen labels otherwise n = elim (slice_get labels n) [ None ↦ otherwise | Some l ↦ l ]
 
 module _ (m : Module) (room : ℕ) where
-  -- an instruction with these words before it and this code behind it
+  -- an instruction that is no construct, with these words before it and this code behind it
   abbrev pub plain : Config → List Word → Code → Instr → Move
   -- 4.4.1 numeric
   plain c ws rest (I32Const z) = goes_at c (word I32 (unsigned I32 z) ∷ ws) rest
@@ -281,9 +305,11 @@ module _ (m : Module) (room : ℕ) where
   construct c ws rest (InIf t body) = pop I32 ws (λ n vs. elim (n == 0) [ true ↦ enter c rest (length (list_of t)) Nothing rest vs | false ↦ enter c rest (length (list_of t)) body rest vs ])
   construct c ws rest (InIfElse t body other) = pop I32 ws (λ n vs. elim (n == 0) [ true ↦ enter c rest (length (list_of t)) other rest vs | false ↦ enter c rest (length (list_of t)) body rest vs ])
 
+  -- a step at this code: its first construct, or an end where no code is left
   abbrev pub step_at : Config → Code → Move
   step_at c Nothing = at_end c c.frame.labels
   step_at c (Then i rest) = construct c c.frame.stack rest i
 
+  -- one step of a state
   abbrev pub machine_step : Config → Move
   machine_step c = step_at c c.frame.code

@@ -3,20 +3,24 @@
 use Rattle.std.specs.Prelude.{◌≡◌, ℕ, zero, suc, ◌+◌, ◌-◌, ◌*◌, ◌^◌, ◌<◌, ◌≤◌, true, false, ◌==◌, ◌&&◌, ◌⊎◌, nat_lt, nat_le, List, [], ◌∷◌, ◌++◌, length, take, drop, ℤ, pos, ◌+ℤ◌, ◌-ℤ◌, ◌*ℤ◌}
 pub use Rattle.wb_syntax.specs.Table.{What, Import, Table, Start, Element, DataPart, Floating}
 
+-- why reading stops: against the grammar, or outside the profile
 pub data Fault : Type 0 where
   Malformed : Fault
   Outside : What → Fault
 
+-- what reading gives: a value and the bytes behind it, or a fault and where it is
 pub data Read (A : Type 0) : Type 0 where
   Reads : A → (left : List ℕ) → Read A
   -- the fault is at the first of the bytes that are left
   Stops : (left : List ℕ) → Fault → Read A
 
+-- a grammar of values of one type: its spellings, and how it is read
 pub record Grammar (A : Type 0) : Type 1 where
   -- these bytes spell this value
   pub Is : A → List ℕ → Type 0
   pub read : List ℕ → Read A
 
+-- reading goes on with what was read, or has stopped
 abbrev pub go_on : {A B : Type 0} → Read A → (A → List ℕ → Read B) → Read B
 go_on (Reads x left) next = next x left
 go_on (Stops left fault) next = Stops left fault
@@ -49,6 +53,7 @@ abbrev pub by_first : {A : Type 0} → (ℕ → Grammar A) → List ℕ → Read
 by_first next [] = Stops [] Malformed
 by_first next (b ∷ bytes) = (next b).read bytes
 
+-- a byte, and what it lets follow
 abbrev pub by_byte : {A : Type 0} → (ℕ → Grammar A) → Grammar A
 by_byte next = record {
   Is = λ x bytes. (b : ℕ) × (rest : List ℕ) × (bytes ≡ b ∷ rest) × (next b).Is x rest;
@@ -60,13 +65,16 @@ pub record Case (A : Type 0) : Type 1 where
   pub byte : ℕ
   pub follows : Grammar A
 
+-- this grammar behind this byte
 abbrev pub case : {A : Type 0} → ℕ → Grammar A → Case A
 case b g = record { byte = b; follows = g }
 
+-- what the first of the cases of this byte lets follow
 abbrev pub among : {A : Type 0} → List (Case A) → ℕ → Grammar A
 among [] b = refused Malformed
 among (c ∷ cs) b = elim (b == c.byte) [ true ↦ c.follows | false ↦ among cs b ]
 
+-- one of these cases
 abbrev pub one_of : {A : Type 0} → List (Case A) → Grammar A
 one_of cases = by_byte (among cases)
 
@@ -88,6 +96,7 @@ IsSigned bits [] z = ⊥
 IsSigned bits (b ∷ []) z = ((b < 64) × (b < 2 ^ (bits - 1)) × (z ≡ pos b)) ⊎ ((64 ≤ b) × (b < 128) × (128 ≤ b + 2 ^ (bits - 1)) × ((z +ℤ pos 128) ≡ pos b))
 IsSigned bits (b ∷ c ∷ bs) z = (128 ≤ b) × (b < 256) × (7 < bits) × (high : ℤ) × ((z +ℤ pos 128) ≡ (pos b +ℤ (pos 128 *ℤ high))) × IsSigned (bits - 7) (c ∷ bs) high
 
+-- an unsigned number of N bits, read from its first byte on
 abbrev pub read_unsigned : ℕ → List ℕ → Read ℕ
 read_unsigned bits [] = Stops [] Malformed
 read_unsigned bits (b ∷ bs) = elim (nat_lt b 128) [
@@ -98,6 +107,7 @@ read_unsigned bits (b ∷ bs) = elim (nat_lt b 128) [
   ]
 ]
 
+-- a signed number of N bits, read from its first byte on
 abbrev pub read_signed : ℕ → List ℕ → Read ℤ
 read_signed bits [] = Stops [] Malformed
 read_signed bits (b ∷ bs) = elim (nat_lt b 128) [
@@ -111,9 +121,11 @@ read_signed bits (b ∷ bs) = elim (nat_lt b 128) [
   ]
 ]
 
+-- unsigned numbers of N bits
 abbrev pub unsigned_number : ℕ → Grammar ℕ
 unsigned_number bits = record { Is = λ n bytes. IsUnsigned bits bytes n; read = read_unsigned bits }
 
+-- signed numbers of N bits
 abbrev pub signed_number : ℕ → Grammar ℤ
 signed_number bits = record { Is = λ z bytes. IsSigned bits bytes z; read = read_signed bits }
 
@@ -138,6 +150,7 @@ at_end (Reads x []) rest = Reads x rest
 at_end (Reads x (b ∷ bytes)) rest = Stops rest Malformed
 at_end (Stops left fault) rest = Stops left fault
 
+-- what is spelled by so many bytes and no others
 abbrev pub exactly : {A : Type 0} → ℕ → Grammar A → Grammar A
 exactly n g = record {
   Is = λ x bytes. (length bytes ≡ n) × g.Is x bytes;
@@ -160,5 +173,6 @@ abbrev pub placed : {A : Type 0} → List ℕ → Read A → Read A
 placed bytes (Reads x left) = Reads x left
 placed bytes (Stops left fault) = Stops bytes fault
 
+-- the same spellings, with each fault at the first byte
 abbrev pub at_start : {A : Type 0} → Grammar A → Grammar A
 at_start g = record { Is = g.Is; read = λ bytes. placed bytes (g.read bytes) }

@@ -1,9 +1,12 @@
 -- Laws of the definitions.
-use Rattle.std.specs.Prelude.{◌≡◌, ℕ, List, [], ◌∷◌, ◌++◌, ◌↔◌, Some}
+use Rattle.std.specs.Prelude.{◌≡◌, ℕ, ◌≤◌, List, [], ◌∷◌, ◌++◌, ◌↔◌, Some, ℤ}
+use Rattle.wb_syntax.specs.Syntax.{Module, Func, Instr, End, Code}
 use Rattle.wb_syntax.specs.Grammar.{Grammar, Reads}
-use Rattle.wb_syntax.specs.Syntax.{Module, Instr, End, Code}
 use Rattle.wb_syntax.specs.Nesting.{flat, IsProper, IsWellNested, nested}
 use Rattle.wb_syntax.specs.Binary.{Encodes, decoded, IsModule}
+use Rattle.wb_syntax.specs.Typing.{IsTypedBody}
+use Rattle.wb_syntax.specs.Execute.{Config, TheStore}
+use Rattle.wb_syntax.specs.Runs.{RunEnd, HasEnded, runs, run_main, mach}
 
 -- reading finds each spelling, whatever follows it, and reads spellings alone
 pub record IsLawful {A : Type 0} (g : Grammar A) : Type 0 where
@@ -25,3 +28,19 @@ NestedExactly = (body : List Instr) (c : Code) → (nested body ≡ Some c) ↔ 
 -- the bodies that the binary format has are those of nested code
 abbrev pub WellNestedExactly : Type 0
 WellNestedExactly = (body : List Instr) → IsWellNested body ↔ ((c : Code) × (nested body ≡ Some c))
+
+-- a body that is typed has nested code, and it is the code that was typed
+abbrev pub TypedIsProper : Type 0
+TypedIsProper = (m : Module) (f : Func) (t : IsTypedBody m f) → IsProper t.code × (nested f.body ≡ Some t.code)
+
+-- more steps change nothing of a run that has ended
+abbrev pub RunsEndedStay : Type 0
+RunsEndedStay = (m : Module) (room words n k : ℕ) (c : Config) (e : RunEnd) → runs m room words n c ≡ e → HasEnded e → n ≤ k → runs m room words k c ≡ e
+
+-- the same of a run of main, from any store
+abbrev pub MainEndedStays : Type 0
+MainEndedStays = (m : Module) (room : ℕ) (s : TheStore) (args : List ℤ) (words n k : ℕ) (e : RunEnd) → run_main m room s args words n ≡ e → HasEnded e → n ≤ k → run_main m room s args words k ≡ e
+
+-- the same of the first run of a module
+abbrev pub MachEndedStays : Type 0
+MachEndedStays = (m : Module) (args : List ℤ) (words n k : ℕ) (e : RunEnd) → mach m args words n ≡ e → HasEnded e → n ≤ k → mach m args words k ≡ e

@@ -7,5 +7,4 @@ pub mod Binary
 pub mod Typing
 pub mod Execute
 pub mod Runs
-pub mod Samples
 pub mod Laws

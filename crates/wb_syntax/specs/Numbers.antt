@@ -1,13 +1,15 @@
--- Integer operations (the standard, 4.3.2). A word of N bits is a number below 2 ^ N; signed operations read it in two's complement.
+-- Integer operations (the standard, 4.3.2) and conversions between integers (4.3.4). A word of N bits is a number below 2 ^ N; signed operations read it in two's complement.
 use Rattle.std.specs.Prelude.{ℕ, ◌+◌, ◌-◌, ◌*◌, ◌/◌, ◌%◌, ◌^◌, Bool, true, false, ◌==◌, ◌&&◌, not, nat_lt, nat_le, ℤ, int_lt, int_le, int_div, int_rem, bit_and, bit_or, bit_xor, count_ones}
 use Rattle.std.specs.Int.{Width, w32, w64, cast_signed, cast_unsigned, leading_zeros, trailing_zeros, rotate_left, rotate_right, int_shr}
 use Rattle.wb_syntax.specs.Syntax.{NumType, I32, I64}
 use Rattle.wb_syntax.specs.Table.{UnaryOp, Eqz, Clz, Ctz, Popcnt, Wrap, ExtendS, ExtendU, BinaryOp, Eq, Ne, LtS, LtU, GtS, GtU, LeS, LeU, GeS, GeU, Add, Sub, Mul, DivS, DivU, RemS, RemU, And, Or, Xor, Shl, ShrS, ShrU, Rotl, Rotr, Row, Takes1, Takes2, row_at}
 
+-- the width of a type, in the words of std
 abbrev pub width : NumType → Width
 width I32 = w32
 width I64 = w64
 
+-- the bits of a word of a type
 abbrev pub bits_of : NumType → ℕ
 bits_of I32 = 32
 bits_of I64 = 64
@@ -16,19 +18,22 @@ bits_of I64 = 64
 abbrev pub signed : NumType → ℕ → ℤ
 signed t n = cast_signed (width t) n
 
+-- a number as the word that stands for it
 abbrev pub unsigned : NumType → ℤ → ℕ
 unsigned t z = cast_unsigned (width t) z
 
--- what an operation gives, or the trap
+-- what an operation yields, or why it traps: a zero divisor, or a quotient that has no word
 pub data Numeric : Type 0 where
   Yields : ℕ → Numeric
   ByZero : Numeric
   TooLarge : Numeric
 
+-- a test as a word: 1 where it holds, 0 where not
 abbrev pub word_of : Bool → ℕ
 word_of true = 1
 word_of false = 0
 
+-- no number is divided by zero
 abbrev pub unless_zero : ℕ → Numeric → Numeric
 unless_zero b r = elim (b == 0) [ true ↦ ByZero | false ↦ r ]
 
@@ -77,17 +82,20 @@ binary_of t ShrU a b = Yields (a / 2 ^ (b % bits_of t))
 binary_of t Rotl a b = Yields (rotate_left (width t) a b)
 binary_of t Rotr a b = Yields (rotate_right (width t) a b)
 
--- by opcode, for opcodes whose row has so many operands
+-- the operation of a row on one operand; of other rows nothing is asked
 abbrev pub unary_by : Row → ℕ → ℕ
 unary_by (Takes1 t r op) a = unary_of t op a
 unary_by _ a = 0
 
+-- the operation of a row on two operands; of other rows nothing is asked
 abbrev pub binary_by : Row → ℕ → ℕ → Numeric
 binary_by (Takes2 t r op) a b = binary_of t op a b
 binary_by _ a b = ByZero
 
+-- the operation of this opcode on one operand
 abbrev pub unary : ℕ → ℕ → ℕ
 unary opcode a = unary_by (row_at opcode) a
 
+-- the operation of this opcode on two operands
 abbrev pub binary : ℕ → ℕ → ℕ → Numeric
 binary opcode a b = binary_by (row_at opcode) a b

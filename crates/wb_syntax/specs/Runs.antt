@@ -8,31 +8,37 @@ use Rattle.wb_syntax.specs.Execute.{Word, word, TheStore, Label, Frame, Config, 
 
 -- ---- words: of a frame its locals, four, one for each label around its place, and the constants before its place
 
+-- the words of a frame: all constants before the place count, those below its labels too
 abbrev pub words_of_frame : Frame → ℕ
 words_of_frame f = length f.locals + 4 + length f.labels + length f.stack + sum (map (λ (l : Label). length l.below) f.labels)
 
+-- the words of a state: those of all its frames
 abbrev pub words_of : Config → ℕ
 words_of c = words_of_frame c.frame + sum (map words_of_frame c.callers)
 
--- ---- the beginning: memory zero at its least size, globals at their constants
+-- ---- the beginning (4.5.4): memory zero at its least size, globals at their constants
 
+-- zeros, of the least size; none where no memory is declared
 abbrev pub memory_at_first : List Limits → Option (List ℕ)
 memory_at_first [] = None
 memory_at_first (l ∷ ls) = Some (replicate (l.min * page) 0)
 
+-- the word of a constant expression
 abbrev pub constant_of : List Instr → List Word
 constant_of (I32Const z ∷ End ∷ []) = word I32 (unsigned I32 z) ∷ []
 constant_of (I64Const z ∷ End ∷ []) = word I64 (unsigned I64 z) ∷ []
 constant_of _ = []
 
+-- each global at the word of its constant
 abbrev pub globals_at_first : List Global → List Word
 globals_at_first [] = []
 globals_at_first (g ∷ gs) = constant_of g.init ++ globals_at_first gs
 
+-- the store before the first run
 abbrev pub store_at_first : Module → TheStore
 store_at_first m = record { memory = memory_at_first m.memories; globals = globals_at_first m.globals }
 
--- the room of a memory that never grows: its size
+-- the room, in pages, of a memory that never grows: its size
 abbrev pub fixed_room : Module → ℕ
 fixed_room m = sum (map (λ (l : Limits). l.min) m.memories)
 
@@ -42,41 +48,49 @@ fixed_room m = sum (map (λ (l : Limits). l.min) m.memories)
 abbrev pub main_name : List ℕ
 main_name = 0x6D ∷ 0x61 ∷ 0x69 ∷ 0x6E ∷ []
 
+-- the index of a function that is exported
 abbrev pub func_of : Exported → Option ℕ
 func_of (AFunc f) = Some f
 func_of (AMemory x) = None
 func_of (AGlobal g) = None
 
+-- the index of the function that is exported by this name
 abbrev pub exported_func : List ℕ → List Export → Option ℕ
 exported_func name [] = None
 exported_func name (e ∷ es) = elim (bytes_eq name e.name) [ true ↦ func_of e.what | false ↦ exported_func name es ]
 
+-- what follows, where there is one
 abbrev pub then_some : {A B : Type 0} → Option A → (A → Option B) → Option B
 then_some None next = None
 then_some (Some x) next = next x
 
+-- all of these types are i64
 abbrev pub all_i64 : List NumType → Bool
 all_i64 [] = true
 all_i64 (t ∷ ts) = same_type I64 t && all_i64 ts
 
+-- there is a result, and it is an i64
 abbrev pub gives_i64 : Option NumType → Bool
 gives_i64 None = false
 gives_i64 (Some t) = same_type I64 t
 
--- a function and its type
+-- the function that main names, and its type
 pub record Main : Type 0 where
   pub func : Func
   pub type : FuncType
 
+-- the exported function main, where its type is any number of i64 to i64
 abbrev pub main_of : Module → Option Main
 main_of m = then_some (exported_func main_name m.exports) (λ x. then_some (slice_get m.funcs x) (λ f. then_some (type_of m f) (λ ft.
     elim (all_i64 ft.params && gives_i64 ft.result) [ true ↦ Some (record { func = f; type = ft }) | false ↦ None ])))
 
+-- the number of arguments of main
 abbrev pub main_arity : Module → Option ℕ
 main_arity m = then_some (main_of m) (λ main. Some (length main.type.params))
 
 -- ---- runs
 
+-- how a run ends, or that it has not ended within its steps
 pub data RunEnd : Type 0 where
   Returned : ℤ → TheStore → RunEnd
   Trapped : TrapKind → TheStore → RunEnd
@@ -86,17 +100,24 @@ pub data RunEnd : Type 0 where
   Running : Config → RunEnd
   NoMain : RunEnd
 
+-- a run has ended unless it is still running
+abbrev pub HasEnded : RunEnd → Type 0
+HasEnded (Running c) = ⊥
+HasEnded _ = Unit {0}
+
+-- the results of the first frame as an end: one word, read as signed
 abbrev pub returned : List Word → TheStore → RunEnd
 returned (w ∷ []) s = Returned (signed w.type w.bits) s
 returned _ s = Stuck
 
+-- the end after a step, by what the step leads to
 abbrev pub after_step : Move → (Config → RunEnd) → RunEnd
 after_step (Goes c) next = next c
 after_step (Finishes results s) next = returned results s
 after_step (Traps kind s) next = Trapped kind s
 after_step NoRule next = Stuck
 
--- no step more: a state that has none is stuck
+-- the end with no step to come: still running, but a state that has no step is stuck at once
 abbrev pub before_step : Move → Config → RunEnd
 before_step (Goes d) c = Running c
 before_step (Finishes results s) c = Running c
@@ -104,15 +125,16 @@ before_step (Traps kind s) c = Running c
 before_step NoRule c = Stuck
 
 module _ (m : Module) (room : ℕ) where
-  -- from this state with at most so many words, at most n steps
+  -- a run from this state with at most so many words and at most n steps: at each state the words are looked at first
   abbrev pub runs : (words n : ℕ) → Config → RunEnd
   runs words zero c = elim (nat_lt words (words_of c)) [ true ↦ StackFull | false ↦ before_step (machine_step m room c) c ]
   runs words (suc n) c = elim (nat_lt words (words_of c)) [ true ↦ StackFull | false ↦ after_step (machine_step m room c) (runs words n) ]
 
+  -- the first state: main in a frame of its own, with these arguments as its first locals
   abbrev pub first_config : Main → List ℤ → TheStore → Code → Config
   first_config main args s body = record { frame = frame_of main.func main.type (map (λ z. word I64 (unsigned I64 z)) args) body; callers = []; store = s }
 
-  -- a run of main on these arguments, from this store
+  -- a run of main on these arguments (4.5.5), from this store
   abbrev pub run_main : TheStore → List ℤ → (words n : ℕ) → RunEnd
   run_main s args words n = elim (main_of m) [
     | None ↦ NoMain
@@ -127,5 +149,6 @@ mach m args words n = run_main m (fixed_room m) (store_at_first m) args words n
 abbrev pub status_in : List ℕ → ℕ
 status_in memory = elim (nat_le 4 (length memory)) [ true ↦ number_of (take 4 memory) | false ↦ 0 ]
 
+-- the status word of a store
 abbrev pub status : TheStore → ℕ
 status s = elim s.memory [ None ↦ 0 | Some memory ↦ status_in memory ]

@@ -2,7 +2,7 @@
 use Rattle.std.specs.Prelude.{ℤ, ℕ, suc, Bool, true, false, ◌&&◌, ◌||◌, ◌==◌, nat_le, List, [], ◌∷◌, ◌++◌, Option}
 use Rattle.wb_syntax.specs.Syntax.{NumType, I32, I64, Instr, Unreachable, Nop, Block, Loop, If, Else, End, Br, BrIf, Return, Call, Drop, Select, LocalGet, LocalSet, LocalTee, GlobalGet, GlobalSet, MemorySize, MemoryGrow, I32Const, I64Const}
 
--- operations with one operand and with two (2.4.1); what they compute is in Numbers
+-- operations with one operand (2.4.1); what they compute is in Numbers
 pub data UnaryOp : Type 0 where
   Eqz : UnaryOp
   Clz : UnaryOp
@@ -12,6 +12,7 @@ pub data UnaryOp : Type 0 where
   ExtendS : UnaryOp
   ExtendU : UnaryOp
 
+-- operations with two operands (2.4.1)
 pub data BinaryOp : Type 0 where
   Eq : BinaryOp
   Ne : BinaryOp
@@ -126,15 +127,18 @@ arithmetic t =
     ∷ Takes2 t t Shl ∷ Takes2 t t ShrS ∷ Takes2 t t ShrU ∷ Takes2 t t Rotl ∷ Takes2 t t Rotr
     ∷ []
 
+-- constants, then comparisons and arithmetic of each type, then conversions
 abbrev pub numeric_rows : List (ℕ × Row)
 numeric_rows =
     (0x41, Constant 32 I32Const) ∷ (0x42, Constant 64 I64Const)
     ∷ (from 0x45 (comparisons I32) ++ from 0x50 (comparisons I64) ++ from 0x67 (arithmetic I32) ++ from 0x79 (arithmetic I64)
     ++ (0xA7, Takes1 I64 I32 Wrap) ∷ (0xAC, Takes1 I32 I64 ExtendS) ∷ (0xAD, Takes1 I32 I64 ExtendU) ∷ [])
 
+-- all instructions of the profile, and call_indirect, which is outside it
 abbrev pub rows : List (ℕ × Row)
 rows = control_rows ++ memory_rows ++ numeric_rows
 
+-- a number is in this range, both ends counted
 abbrev pub between : (least greatest n : ℕ) → Bool
 between least greatest n = nat_le least n && nat_le n greatest
 
@@ -149,5 +153,6 @@ abbrev pub row_among : ℕ → List (ℕ × Row) → Row
 row_among b [] = elim (is_float b) [ true ↦ Foreign Floating | false ↦ NoInstruction ]
 row_among b (r ∷ rs) = elim (b == r.0) [ true ↦ r.1 | false ↦ row_among b rs ]
 
+-- the row of an opcode
 unfoldable pub row_at : ℕ → Row
 row_at b = row_among b rows

@@ -17,7 +17,7 @@ pub record Context : Type 0 where
   pub result : Option NumType
 
 -- Stacks are written with the top first.
--- An instruction that takes and gives so much leaves what is below (3.3.7, where sequences put it beside what follows).
+-- An instruction that takes and gives so much leaves what is below, as it may stand in any sequence (3.3.6).
 abbrev pub Takes : (takes gives before after : List NumType) → Type 0
 Takes takes gives before after = (below : List NumType) × (before ≡ takes ++ below) × (after ≡ gives ++ below)
 
@@ -30,27 +30,31 @@ abbrev pub AreLabels : Context → Option NumType → List ℕ → Type 0
 AreLabels c t [] = Unit {0}
 AreLabels c t (l ∷ ls) = (slice_get c.labels l ≡ Some t) × AreLabels c t ls
 
--- memory instructions (3.3.5): there is a memory, and the alignment is no greater than the access
+-- memory instructions (3.3.4): there is a memory, and the alignment is no greater than the access
 abbrev pub IsAccess : Context → (align bytes : ℕ) → Type 0
 IsAccess c align bytes = (c.has_memory ≡ true) × (2 ^ align ≤ bytes)
 
+-- a load: from an address to a word of the type of its row
 abbrev pub IsLoad : Context → Row → (align : ℕ) → (before after : List NumType) → Type 0
 IsLoad c (Loads t bytes e) align before after = IsAccess c align bytes × Takes (I32 ∷ []) (t ∷ []) before after
 IsLoad c _ align before after = ⊥
 
+-- a store: takes a word of the type of its row, and an address below it
 abbrev pub IsStore : Context → Row → (align : ℕ) → (before after : List NumType) → Type 0
 IsStore c (Stores t bytes) align before after = IsAccess c align bytes × Takes (t ∷ I32 ∷ []) [] before after
 IsStore c _ align before after = ⊥
 
--- numeric instructions (3.3.1), by the table
+-- numeric instructions (3.3.1), by the table: an operation with one operand
 abbrev pub IsUnary : Row → (before after : List NumType) → Type 0
 IsUnary (Takes1 t r op) before after = Takes (t ∷ []) (r ∷ []) before after
 IsUnary _ before after = ⊥
 
+-- an operation with two operands of one type
 abbrev pub IsBinary : Row → (before after : List NumType) → Type 0
 IsBinary (Takes2 t r op) before after = Takes (t ∷ t ∷ []) (r ∷ []) before after
 IsBinary _ before after = ⊥
 
+-- an instruction that is no construct takes a stack of types to another
 abbrev pub IsPlain : Context → Instr → (before after : List NumType) → Type 0
 -- 3.3.1 numeric
 IsPlain c (I32Const z) a b = Takes [] (I32 ∷ []) a b
@@ -86,7 +90,7 @@ IsPlain c _ a b = ⊥
 abbrev pub inside : Context → Option NumType → Context
 inside c t = record c { labels = t ∷ c.labels }
 
--- nested code takes a stack of types to another: constructs (3.3.5) begin on an empty stack and leave their result
+-- nested code takes a stack of types to another (3.3.6): constructs (3.3.5) begin on an empty stack and leave their result
 abbrev mutual
   pub Types : Context → Code → (before after : List NumType) → Type 0
   Types c Nothing a b = a ≡ b
@@ -103,10 +107,12 @@ abbrev mutual
 
 -- ---- modules (3.4)
 
+-- a list has an element
 abbrev pub is_there : {A : Type 0} → List A → Bool
 is_there [] = false
 is_there (x ∷ xs) = true
 
+-- the context of a function's body: its locals, and one label, which carries its result
 abbrev pub context_of : Module → Func → FuncType → Context
 context_of m f ft = record {
   types = m.types;
@@ -126,29 +132,31 @@ pub record IsTypedBody (m : Module) (f : Func) : Type 0 where
   pub nests : f.body ≡ flat code ++ End ∷ []
   pub typed : Types (context_of m f type) code [] (list_of type.result)
 
--- memory types (3.2.4)
+-- the greatest size, where one is given, is no less than the least, and at most 2 ^ 16 pages
 abbrev pub IsGreatest : ℕ → Option ℕ → Type 0
 IsGreatest least None = Unit {0}
 IsGreatest least (Some greatest) = (least ≤ greatest) × (greatest ≤ 2 ^ 16)
 
+-- the sizes of a memory (3.2.1, 3.2.4) are at most 2 ^ 16 pages, and in order
 abbrev pub AreLimits : Limits → Type 0
 AreLimits l = (l.min ≤ 2 ^ 16) × IsGreatest l.min l.max
 
--- constant expressions (3.3.7): without imports one constant
+-- constant expressions (3.3.7): one constant of the type, since without imports no global may be read
 abbrev pub IsConstant : NumType → List Instr → Type 0
 IsConstant I32 init = (z : ℤ) × (init ≡ I32Const z ∷ End ∷ [])
 IsConstant I64 init = (z : ℤ) × (init ≡ I64Const z ∷ End ∷ [])
 
--- exports (3.4.8): what is exported is there, and no earlier export has the name
+-- exports (3.4.8): what is exported is there
 abbrev pub IsThere : Module → Exported → Type 0
 IsThere m (AFunc f) = f < length m.funcs
 IsThere m (AMemory x) = x < length m.memories
 IsThere m (AGlobal g) = g < length m.globals
 
+-- no earlier export has this name
 abbrev pub IsNewName : Module → ℕ → List ℕ → Type 0
 IsNewName m e name = (d : ℕ) → d < e → IfSome (slice_get m.exports d) (λ (x : Export). x.name ≢ name)
 
--- the parts of a module that validity speaks of, in their order
+-- the parts of a module that validity speaks of, in their order: types of functions, memories, globals, exports, bodies
 pub data Part : Type 0 where
   FuncTypeOf : (func : ℕ) → Part
   Memories : Part
@@ -166,9 +174,11 @@ IsValid m (GlobalInit g) = IfSome (slice_get m.globals g) (λ (x : Global). IsCo
 IsValid m (ExportOf e) = IfSome (slice_get m.exports e) (λ (x : Export). IsThere m x.what × IsNewName m e x.name)
 IsValid m (Body f) = IfSome (slice_get m.funcs f) (IsTypedBody m)
 
+-- a module is valid (3.4.10): each of its parts is
 abbrev pub Valid : Module → Type 0
 Valid m = (p : Part) → IsValid m p
 
+-- the place of a part's kind in the order
 abbrev pub kind : Part → ℕ
 kind (FuncTypeOf f) = 0
 kind Memories = 1
@@ -177,6 +187,7 @@ kind (GlobalInit g) = 3
 kind (ExportOf e) = 4
 kind (Body f) = 5
 
+-- the place of a part among those of its kind
 abbrev pub number : Part → ℕ
 number (FuncTypeOf f) = f
 number Memories = 0
@@ -185,6 +196,7 @@ number (GlobalInit g) = g
 number (ExportOf e) = e
 number (Body f) = f
 
+-- this part comes before that one
 abbrev pub IsBefore : Part → Part → Type 0
 IsBefore p q = (kind p < kind q) ⊎ ((kind p ≡ kind q) × (number p < number q))
 

@@ -1,18 +1,27 @@
-//! Laws of the definitions, each proved as the contract of a function that does nothing.
+//! Laws of the definitions, each the contract of a function that does nothing.
 
-ghost use Rattle.wb_syntax.specs.Laws.{DecodedExactly, EncodesOne, NestedExactly, WellNestedExactly};
+ghost use Rattle.wb_syntax.specs.Laws.{
+  DecodedExactly,
+  EncodesOne,
+  NestedExactly,
+  WellNestedExactly,
+  TypedIsProper,
+  RunsEndedStay,
+  MainEndedStays,
+  MachEndedStays,
+};
 
-/// Bytes are a module's by the grammar exactly where they are read as it.
+/// Bytes spell a module by the grammar exactly where `decoded` reads that module from them.
 pub fn decoded_exactly()
     ensures { DecodedExactly }
 {}
 
-/// Each list of bytes is at most one module's.
+/// No list of bytes spells two modules.
 pub fn encodes_one()
     ensures { EncodesOne }
 {}
 
-/// The nested code of a body is the one code that is written out as it.
+/// The nested code of a body is the only proper code that, written out and closed by an end, is that body.
 pub fn nested_exactly()
     ensures { NestedExactly }
 {}
@@ -20,4 +29,16 @@ pub fn nested_exactly()
 /// A body is well nested exactly where it has nested code.
 pub fn well_nested_exactly()
     ensures { WellNestedExactly }
+{}
+
+/// Code by which a body is typed is proper, and is the nested code of that body.
+pub fn typed_is_proper()
+    ensures { TypedIsProper }
+{}
+
+/// A run that has ended ends the same way however many more steps it may make.
+pub fn ended_stays()
+    ensures runs { RunsEndedStay }
+    ensures main { MainEndedStays }
+    ensures mach { MachEndedStays }
 {}

@@ -1,0 +1,2 @@
+pub mod EndedStays
+mod Examples

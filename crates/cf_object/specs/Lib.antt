@@ -1,0 +1,6 @@
+pub mod Obj
+pub mod Run
+pub mod Jumps
+pub mod Machine
+pub mod Program
+pub mod Laws

@@ -1,0 +1,125 @@
+-- What the program answers, by its words, its input and what it wrote. A command or a refusal that comes later adds a case, and rewords none.
+use Rattle.std.specs.Prelude.{◌≡◌, ℕ, suc, ◌+◌, ◌<◌, ◌≤◌, List, [], ◌∷◌, ◌++◌, length, take, codes, Option, Result, Ok, Err}
+use Rattle.std.specs.Io.KnownBytes.{Appends, Consumes}
+use Rattle.cf_base.specs.Causes.{Rose, GivesAll, TakesFront}
+use Rattle.cf_parse.specs.Refusals.{IsNoProgram}
+use Rattle.cftt.specs.Built.{BuiltFrom}
+use Rattle.cftt.specs.declared.top.Report.{Report}
+use Rattle.cftt.specs.declared.top.Refusal.{Refusal}
+use Rattle.cftt.specs.declared.top.Refusal.TheVariants.{Usage, ReadFault, TooLong, Syntax, WriteFault, NoMemory}
+
+-- ---- words
+
+-- a command
+pub data Command : Type 0 where
+  Build : Command
+
+-- the words are the line of this command
+pub data IsLine : List (List ℕ) → Command → Type 0 where
+  build : IsLine (codes "build" ∷ []) Build
+
+-- the words are the line of a command of which this holds
+abbrev pub OnLine : List (List ℕ) → (Command → Type 0) → Type 0
+OnLine words P = (c : Command) × IsLine words c × P c
+
+-- the words begin a line
+abbrev pub BeginsLine : List (List ℕ) → Type 0
+BeginsLine words = (more : List (List ℕ)) × (c : Command) × IsLine (words ++ more) c
+
+-- the words are no line, and i is the first word such that the words up to it begin none, or the number of words where each does
+pub record IsUsage (words : List (List ℕ)) (i : ℕ) : Type 0 where
+  pub within : i ≤ length words
+  pub before : BeginsLine (take i words)
+  pub here : i < length words → BeginsLine (take (suc i) words) → ⊥
+  pub no_line : (c : Command) → IsLine words c → ⊥
+
+-- ---- input and output
+
+-- what is known of the input and of the output at one moment
+pub record Ends : Type 0 where
+  pub left : Option (List ℕ)
+  pub read_faults : ℕ
+  pub taken : Option (List ℕ)
+  pub write_faults : ℕ
+
+-- the most bytes that the input of a command may have
+abbrev pub most_bytes : Command → ℕ
+most_bytes Build = 1048576
+
+-- the input was read to its end, and this is all of it
+pub record HasInput (c : Command) (old new : Ends) (input : List ℕ) : Type 0 where
+  pub all : GivesAll old.left new.left input
+  pub short : length input ≤ most_bytes c
+
+-- the input gave one byte more than it may have
+pub record IsTooLong (c : Command) (old new : Ends) : Type 0 where
+  pub given : List ℕ
+  pub count : length given ≡ most_bytes c + 1
+  pub consumed : Consumes old.left new.left given
+
+-- the input was read to its end and is no program; the place lies in it
+pub record IsNoSource (c : Command) (old new : Ends) (offset : ℕ) : Type 0 where
+  pub source : List ℕ
+  pub whole : HasInput c old new source
+  pub none : IsNoProgram source
+  pub within : offset ≤ length source
+
+-- ---- answers
+
+-- what a command writes for its input, and what it reports: one case for each command
+abbrev pub Writes : Command → (input : List ℕ) → Report → (output : List ℕ) → Type 0
+Writes Build source report bytes = (report ≡ record { code = 0; calls = 0 }) × BuiltFrom source bytes
+
+-- the command ended well: the input was read to its end, and all that it writes was taken
+pub record IsDone (words : List (List ℕ)) (old new : Ends) (report : Report) : Type 0 where
+  pub command : Command
+  pub line : IsLine words command
+  pub input : List ℕ
+  pub whole : HasInput command old new input
+  pub output : List ℕ
+  pub writes : Writes command input report output
+  pub taken : Appends old.taken new.taken output
+
+-- the cause of each refusal; want of memory has none
+abbrev pub Caused : List (List ℕ) → (old new : Ends) → Refusal → Type 0
+Caused words old new (Usage i) = IsUsage words i
+Caused words old new ReadFault = OnLine words (λ c. Rose old.read_faults new.read_faults)
+Caused words old new TooLong = OnLine words (λ c. IsTooLong c old new)
+Caused words old new (Syntax at) = OnLine words (λ c. IsNoSource c old new at.offset)
+Caused words old new WriteFault = OnLine words (λ c. Rose old.write_faults new.write_faults)
+Caused words old new NoMemory = Unit {0}
+
+-- a front of what the command writes was taken
+pub record IsCutOff (c : Command) (old new : Ends) : Type 0 where
+  pub input : List ℕ
+  pub whole : HasInput c old new input
+  pub report : Report
+  pub output : List ℕ
+  pub writes : Writes c input report output
+  pub taken : TakesFront old.taken new.taken output
+
+-- what a refusal leaves in the output: nothing new, but where the write failed
+abbrev pub Leaves : List (List ℕ) → (old new : Ends) → Refusal → Type 0
+Leaves words old new (Usage i) = new.taken ≡ old.taken
+Leaves words old new ReadFault = new.taken ≡ old.taken
+Leaves words old new TooLong = new.taken ≡ old.taken
+Leaves words old new (Syntax at) = new.taken ≡ old.taken
+Leaves words old new WriteFault = OnLine words (λ c. IsCutOff c old new)
+Leaves words old new NoMemory = new.taken ≡ old.taken
+
+-- this holds where the refusal is Usage
+abbrev pub OnUsage : Refusal → Type 0 → Type 0
+OnUsage (Usage i) P = P
+OnUsage _ P = Unit {0}
+
+-- ---- status
+
+-- 2 for words that are no command line, else 1
+abbrev pub status_of_refusal : Refusal → ℕ
+status_of_refusal (Usage i) = 2
+status_of_refusal _ = 1
+
+-- what the process ends with
+abbrev pub status_of : Result Report Refusal → ℕ
+status_of (Ok report) = report.code
+status_of (Err e) = status_of_refusal e

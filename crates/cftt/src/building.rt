@@ -1,0 +1,18 @@
+// From the bytes of a source to the bytes of a module.
+ghost use Rattle.std.specs.Prelude.{IfOk, IfErr};
+ghost use Rattle.cf_parse.specs.Refusals.{IsRefused};
+ghost use Rattle.cftt.specs.Built.{BuiltFrom};
+
+use crate::encoding;
+use cf_parse::{ParseEnd, first};
+use std::alloc::Global;
+
+/// The bytes of a module for a source.
+pub fn built(alloc: Global, source: &[u8]) -> Result<Vec<u8>, ParseEnd>
+    ensures module { IfOk result (λ bytes. BuiltFrom source.now bytes.items) }
+    ensures refused { IfErr result (λ end. IsRefused source.now end) }
+{
+    let program = first(alloc, source)?;
+    let module = encoding::module(alloc, &program)?;
+    Ok(module)
+}

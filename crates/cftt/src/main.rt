@@ -1,0 +1,32 @@
+//! `cftt`: its top call, the command lines, and what lies between the libraries.
+#![tactic(auto)]
+
+mod building;
+mod command_line;
+mod encoding;
+mod run;
+mod top;
+
+use cf_base::{StdSink, StdSource};
+use std::process::ExitCode;
+use std::{env, io};
+
+// The words after the program's name.
+fn words(rt: &HostRuntime) -> io::Result<Vec<String>> {
+    let mut words = Vec::new(rt.alloc());
+    for word in env::args(rt)?.skip(1) {
+        words.push(word)?;
+    }
+    Ok(words)
+}
+
+fn main(rt: HostRuntime) -> ExitCode {
+    let Ok(words) = words(&rt) else {
+        return ExitCode::from(1);
+    };
+    let mut input = StdSource::new(rt.stdin());
+    let mut out = StdSink::new(rt.stdout());
+    let mut err = StdSink::new(rt.stderr());
+    let end = run::cftt(rt.alloc(), &words, &mut input, &mut out, &mut err);
+    ExitCode::from(run::status(&end))
+}
