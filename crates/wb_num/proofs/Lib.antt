@@ -1,0 +1,3 @@
+-- Lemmas on the table of operations.
+pub mod Between
+pub mod Rows
