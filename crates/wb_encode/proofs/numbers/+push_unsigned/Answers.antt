@@ -1,0 +1,10 @@
+use Rattle.std.proofs.Common.{◌-◌, arith}
+use Rattle.wb_encode.proofs.Appending.{after_byte, pushed}
+use Rattle.wb_encode.proofs.Leb.{unsigned_high, unsigned_more}
+use Rattle.wb_encode.proofs.numbers.+push_unsigned.Goals as goal
+
+pub returns-in_ok-push_unsigned : goal.returns-in_ok-push_unsigned
+returns-in_ok-push_unsigned t c = λ bits h.
+    after_byte (pushed c.in_ok-push-2.ensures.items)
+    (c.in_ok-push_unsigned.ensures (bits - 7) (unsigned_high bits c.args.n (omega arith) h))
+    (unsigned_more bits c.args.n (omega arith) h)

@@ -1,0 +1,5 @@
+use Rattle.std.proofs.Common.{arith}
+use Rattle.wb_encode.proofs.numbers.push_length.Goals as goal
+
+pub returns : goal.returns
+returns c = c.in_ok-push_unsigned.ensures 32 (omega arith)

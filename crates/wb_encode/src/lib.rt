@@ -1,0 +1,18 @@
+//! Modules of the integer profile as bytes (WebAssembly Core 1.0, section 5).
+//!
+//! `encode` writes each number in its fewest bytes, no section that is empty and no custom section.
+#![tactic(auto)]
+
+mod encoding;
+mod instructions;
+mod laws;
+mod numbers;
+mod parts;
+mod sections;
+mod spelling;
+#[cfg(test)]
+mod tests;
+
+pub use cf_base::NoMemory;
+pub use encoding::encode;
+pub use laws::encoded_is_encodable;
