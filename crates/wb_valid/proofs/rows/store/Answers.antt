@@ -1,0 +1,6 @@
+use Rattle.std.proofs.Common.{arith}
+use Rattle.wb_valid.proofs.Opcodes.{no_store}
+use Rattle.wb_valid.proofs.rows.store.Goals as goal
+
+pub returns-in_default : goal.returns-in_default
+returns-in_default c = no_store c.args.has_memory c.args.align c.args.op (omega arith) (λ a b. omega arith) (λ a b. omega arith)
