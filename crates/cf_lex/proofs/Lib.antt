@@ -1,0 +1,12 @@
+pub mod Runs
+pub mod Longest
+pub mod Standing
+pub mod Widths
+pub mod Seen
+pub mod Numbers
+pub mod Progress
+pub mod Unique
+pub mod Places
+pub mod Wholes
+pub mod Used
+pub mod Spelled
