@@ -3,9 +3,10 @@ ghost use Rattle.std.specs.Prelude.{IfOk, IfErr};
 ghost use Rattle.cf_parse.specs.Refusals.{IsRefused};
 ghost use Rattle.cftt.specs.Built.{BuiltFrom};
 
-use crate::encoding;
+use crate::lowering::lowered;
 use cf_parse::{ParseEnd, first};
 use std::alloc::Global;
+use wb_encode::encode;
 
 /// The bytes of a module for a source.
 pub fn built(alloc: Global, source: &[u8]) -> Result<Vec<u8>, ParseEnd>
@@ -13,6 +14,9 @@ pub fn built(alloc: Global, source: &[u8]) -> Result<Vec<u8>, ParseEnd>
     ensures refused { IfErr result (λ end. IsRefused source.now end) }
 {
     let program = first(alloc, source)?;
-    let module = encoding::module(alloc, &program)?;
-    Ok(module)
+    let module = lowered(alloc, &program)?;
+    match encode(alloc, &module) {
+        Ok(bytes) => Ok(bytes),
+        Err(_) => Err(ParseEnd::NoMemory),
+    }
 }

@@ -3,7 +3,7 @@
 
 mod building;
 mod command_line;
-mod encoding;
+mod lowering;
 mod run;
 mod top;
 
