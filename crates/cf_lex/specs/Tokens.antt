@@ -16,6 +16,7 @@ use Rattle.cf_lex.specs.declared.piece.Piece.TheVariants as piece
 abbrev pub is_blank : ℕ → Bool
 is_blank c = (c == 32) || (c == 9) || (c == 13) || (c == 10)
 
+-- 0 to 9
 abbrev pub is_digit : ℕ → Bool
 is_digit c = nat_le 48 c && nat_le c 57
 

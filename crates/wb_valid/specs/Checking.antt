@@ -10,11 +10,12 @@ pub use Rattle.wb_valid.specs.declared.frames.Frame.{Frame}
 pub use Rattle.wb_valid.specs.declared.frames.Step.{Step}
 pub use Rattle.wb_valid.specs.declared.frames.Step.TheVariants.{Inside, Closed, Refused as Stops}
 
--- what a branch to a construct carries
+-- what a branch to a construct of this kind and result carries
 abbrev pub label_of : Kind → Option NumType → Option NumType
 label_of Repeated r = None
 label_of _ r = r
 
+-- what a branch to this construct carries
 abbrev pub label : Frame → Option NumType
 label f = label_of f.kind f.result
 

@@ -12,6 +12,7 @@ pub use Rattle.wb_valid.specs.declared.rows.Effect.TheVariants.{Moves, Jumping, 
 abbrev pub list_of_takings : Takings → List NumType
 list_of_takings k = list_of k.first ++ list_of k.second
 
+-- at most two operands are taken
 abbrev pub taking : (first second : Option NumType) → Takings
 taking f s = record { first = f; second = s }
 

@@ -40,6 +40,7 @@ impl<T> Pile<T> {
         self.items.pop()
     }
 
+    /// Whether there is no item.
     pub fn is_empty(&self) -> bool
         ensures { IsTrue result ↔ (self.now ≡ []) }
     {

@@ -31,6 +31,7 @@ pub enum Effect {
     Refused,
 }
 
+/// The types of what is taken: the top operand first.
 pub fn taking(first: Option<NumType>, second: Option<NumType>) -> Takings
     ensures { result ≡ taking first second }
 {
@@ -44,6 +45,7 @@ pub fn moves(taken: Option<NumType>, given: Option<NumType>) -> Effect
     Effect::Moves(taking(taken, None), given)
 }
 
+/// The effect where the test holds, else none.
 pub fn only_if(test: bool, effect: Effect) -> Effect
     ensures { result ≡ only_if test effect }
 {
@@ -75,6 +77,7 @@ fn store_of(has_memory: bool, align: u32, exponent: u32, ty: NumType) -> Effect
     only_if(is_access(has_memory, align, exponent), effect)
 }
 
+/// The effect of a load by its opcode.
 #[tactic(auto, unfolding(wb_syntax::specs::Table::row_at))]
 pub fn load(has_memory: bool, align: u32, op: u8) -> Effect
     ensures { result ≡ load_effect has_memory align (row_at op) }
@@ -91,6 +94,7 @@ pub fn load(has_memory: bool, align: u32, op: u8) -> Effect
     }
 }
 
+/// The effect of a store by its opcode.
 #[tactic(auto, unfolding(wb_syntax::specs::Table::row_at))]
 pub fn store(has_memory: bool, align: u32, op: u8) -> Effect
     ensures { result ≡ store_effect has_memory align (row_at op) }
@@ -107,6 +111,7 @@ pub fn store(has_memory: bool, align: u32, op: u8) -> Effect
     }
 }
 
+/// The effect of an operation with one operand by its opcode.
 #[tactic(auto, unfolding(wb_syntax::specs::Table::row_at))]
 pub fn unary(op: u8) -> Effect
     ensures { result ≡ unary_effect (row_at op) }
@@ -129,6 +134,7 @@ fn two(ty: NumType, given: NumType) -> Effect
     Effect::Moves(taking(Some(ty), Some(ty)), Some(given))
 }
 
+/// The effect of an operation with two operands by its opcode.
 #[tactic(auto, unfolding(wb_syntax::specs::Table::row_at))]
 pub fn binary(op: u8) -> Effect
     ensures { result ≡ binary_effect (row_at op) }

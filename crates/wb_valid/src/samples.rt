@@ -65,6 +65,7 @@ fn variable(word: &str) -> Option<Instr> {
         "get:3" => Some(Instr::LocalGet(3)),
         "get:4" => Some(Instr::LocalGet(4)),
         "set:0" => Some(Instr::LocalSet(0)),
+        "set:2" => Some(Instr::LocalSet(2)),
         "tee:2" => Some(Instr::LocalTee(2)),
         "global.get:1" => Some(Instr::GlobalGet(1)),
         "global.get:2" => Some(Instr::GlobalGet(2)),
@@ -109,6 +110,7 @@ fn instruction(alloc: Global, word: &str) -> Result<Option<Instr>, AllocError> {
     branch(alloc, word)
 }
 
+/// The instructions of these words.
 pub fn body(alloc: Global, text: &str) -> Result<Items<Instr>, AllocError> {
     let mut body = Items::new(alloc);
     for word in text.split_whitespace() {
@@ -127,12 +129,14 @@ fn func_type(params: Items<NumType>, given: Option<NumType>) -> FuncType {
     }
 }
 
+/// An export by this name.
 pub fn export(alloc: Global, name: &str, what: Exported) -> Result<Export, AllocError> {
     let name = Name::new(String::from_str(alloc, name)?);
     Ok(Export { name, what })
 }
 
-// Types (i64 i64) -> i64 and () -> (); locals 2 and 3 of function 0 are an i32 and an i64.
+/// A module whose function 0 has this body.
+/// Its types are (i64 i64) -> i64 and () -> (); locals 2 and 3 of function 0 are an i32 and an i64.
 pub fn with_body(alloc: Global, text: &str) -> Result<Module, AllocError> {
     let types = items(
         alloc,
@@ -184,6 +188,7 @@ pub fn with_body(alloc: Global, text: &str) -> Result<Module, AllocError> {
     })
 }
 
+/// A global at a constant.
 pub fn global(
     alloc: Global,
     ty: NumType,

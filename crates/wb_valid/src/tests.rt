@@ -8,7 +8,7 @@ use std::alloc::{AllocError, Global};
 use std::test::Fail;
 use wb_syntax::{Exported, Func, Instr, Limits, Module, NumType};
 
-const TYPED: [&str; 40] = [
+const TYPED: [&str; 41] = [
     "i64 end",
     "nop get:0 end",
     "get:3 end",
@@ -49,9 +49,10 @@ const TYPED: [&str; 40] = [
     "i64 i64 add end",
     "i64 eqz extend end",
     "i64 wrap drop i64 end",
+    "i32 set:2 i64 end",
 ];
 
-const UNTYPED: [&str; 54] = [
+const UNTYPED: [&str; 71] = [
     "",
     "end",
     "i64",
@@ -106,6 +107,23 @@ const UNTYPED: [&str; 54] = [
     "i32 i64 add end",
     "i64 unary_add end",
     "i64 i64 no_operation end",
+    "block:i64 i32 br:0 end end",
+    "block i64 br_if:0 end i64 end",
+    "block:i64 i32 i32 br_if:0 end end",
+    "i32 i32 br_table:0,0 end",
+    "i32 return end",
+    "i64 i32 call:2 end",
+    "i32 set:0 i64 end",
+    "i64 set:2 i64 end",
+    "i64 tee:2 drop i64 end",
+    "i32 global.set:1 i64 end",
+    "i64 grow drop i64 end",
+    "i64 i64 store:3 i64 end",
+    "i32 i32 store:3 i64 end",
+    "i32 eqz extend end",
+    "i32 wrap drop i64 end",
+    "i64 extend end",
+    "i64 i32 add end",
 ];
 
 #[test]
