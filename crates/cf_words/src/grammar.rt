@@ -1,0 +1,71 @@
+// The commands and their options, as a table.
+ghost use Rattle.std.specs.Prelude.{◌≡◌, ◌≢◌, MatchOption};
+ghost use Rattle.cf_words.specs.Lines.{command_text, option_text, takes, greatest};
+
+/// The name of a command.
+#[derive(Clone, Copy, Debug, PartialEq, Eq)]
+pub enum CommandName {
+    /// `core`
+    Core,
+    /// `build`
+    Build,
+}
+
+/// The name of an option.
+#[derive(Clone, Copy, Debug, PartialEq, Eq)]
+pub enum OptionName {
+    /// `--steps`
+    Steps,
+    /// `--pages`
+    Pages,
+}
+
+/// The command of this name.
+pub fn command_named(word: &str) -> Option<CommandName>
+    ensures { MatchOption result ((c : CommandName) → word.now ≢ command_text c) (λ c. word.now ≡ command_text c) }
+{
+    if word == "core" {
+        Some(CommandName::Core)
+    } else if word == "build" {
+        Some(CommandName::Build)
+    } else {
+        None
+    }
+}
+
+/// The option of this name.
+pub fn option_named(word: &str) -> Option<OptionName>
+    ensures { MatchOption result ((o : OptionName) → word.now ≢ option_text o) (λ o. word.now ≡ option_text o) }
+{
+    if word == "--steps" {
+        Some(OptionName::Steps)
+    } else if word == "--pages" {
+        Some(OptionName::Pages)
+    } else {
+        None
+    }
+}
+
+impl CommandName {
+    /// Whether the option belongs to the command.
+    pub fn takes(self, option: OptionName) -> bool
+        ensures { result ≡ takes self option }
+    {
+        match self {
+            CommandName::Core => option == OptionName::Steps,
+            CommandName::Build => true,
+        }
+    }
+}
+
+impl OptionName {
+    /// The greatest number that may be given; the least is 1.
+    pub fn greatest(self) -> u64
+        ensures { result ≡ greatest self }
+    {
+        match self {
+            OptionName::Steps => 1_000_000_000,
+            OptionName::Pages => 1_024,
+        }
+    }
+}

@@ -1,0 +1,27 @@
+//! Reads command lines: which command the words ask for, and with which numbers.
+//!
+//! A command line is the name of a command and behind it options of this command, in any order and each at most once.
+//! An option is two words, its name and a number: ASCII digits, zeros may lead.
+//!
+//! | Command | Options |
+//! |---|---|
+//! | `core` | `--steps` |
+//! | `build` | `--steps`, `--pages` |
+//!
+//! | Option | Number | Where it is not given |
+//! |---|---|---|
+//! | `--steps` | 1 to 1,000,000,000 | 1,000,000 |
+//! | `--pages` | 1 to 1,024 | 16 |
+#![tactic(auto)]
+
+mod command;
+mod given;
+mod grammar;
+mod laws;
+mod reading;
+#[cfg(test)]
+mod tests;
+
+pub use command::{Command, WordsEnd};
+pub use laws::{line_or_usage, one_command, one_usage};
+pub use reading::read_words;
