@@ -1,0 +1,94 @@
+// The line of each refusal.
+use crate::refusal::Refusal;
+use crate::text::{no_memory_text, refusal_text, write_fault_text};
+use cf_base::{At, Limit};
+use std::alloc::Global;
+use std::test::Fail;
+
+// A place in the source, and one in the prelude.
+const SOURCE: At = At {
+    prelude: false,
+    offset: 26,
+};
+
+const PRELUDE: At = At {
+    prelude: true,
+    offset: 1048576,
+};
+
+const ROWS: [(Refusal, &str); 20] = [
+    (Refusal::Usage(3), "refused: usage at word 3\n"),
+    (Refusal::Usage(0), "refused: usage at word 0\n"),
+    (Refusal::ReadFault, "refused: read fault\n"),
+    (Refusal::TooLong, "refused: input too long\n"),
+    (Refusal::NotText(0), "refused: not text at 0\n"),
+    (
+        Refusal::BadChar(4294967295),
+        "refused: bad character at 4294967295\n",
+    ),
+    (Refusal::Syntax(SOURCE), "refused: syntax at 26\n"),
+    (
+        Refusal::Syntax(PRELUDE),
+        "refused: syntax at prelude 1048576\n",
+    ),
+    (
+        Refusal::TooNested(SOURCE),
+        "refused: nested too deep at 26\n",
+    ),
+    (
+        Refusal::TooMany(SOURCE, Limit::Declarations),
+        "refused: too many declarations at 26\n",
+    ),
+    (
+        Refusal::TooMany(SOURCE, Limit::Parameters),
+        "refused: too many parameters at 26\n",
+    ),
+    (
+        Refusal::TooMany(SOURCE, Limit::Constructors),
+        "refused: too many constructors at 26\n",
+    ),
+    (
+        Refusal::TooMany(SOURCE, Limit::Fields),
+        "refused: too many fields at 26\n",
+    ),
+    (
+        Refusal::TooMany(PRELUDE, Limit::Arguments),
+        "refused: too many arguments at prelude 1048576\n",
+    ),
+    (
+        Refusal::Literal(SOURCE),
+        "refused: literal out of range at 26\n",
+    ),
+    (Refusal::Unknown(SOURCE), "refused: unknown name at 26\n"),
+    (Refusal::Twice(SOURCE), "refused: declared twice at 26\n"),
+    (Refusal::Later, "refused: form not built yet\n"),
+    (Refusal::WriteFault, "refused: write fault\n"),
+    (Refusal::NoMemory, "refused: no memory\n"),
+];
+
+// The line of the refusal, as text.
+fn line(alloc: Global, r: &Refusal) -> Result<String, Fail> {
+    let Ok(bytes) = refusal_text(alloc, r) else {
+        return Err(Fail::from("no memory"));
+    };
+    let Ok(text) = String::from_utf8(bytes) else {
+        return Err(Fail::from("not text"));
+    };
+    Ok(text)
+}
+
+#[test]
+fn lines(rt: HostRuntime) -> Result<(), Fail> {
+    for (refusal, expected) in ROWS {
+        let text = line(rt.alloc(), &refusal)?;
+        assert_eq!(rt; text.as_str(), expected);
+    }
+    Ok(())
+}
+
+#[test]
+fn constant_lines(rt: HostRuntime) -> Result<(), Fail> {
+    assert_eq!(rt; no_memory_text(), b"refused: no memory\n".as_slice());
+    assert_eq!(rt; write_fault_text(), b"refused: write fault\n".as_slice());
+    Ok(())
+}
