@@ -1,0 +1,6 @@
+pub mod Grammar
+pub mod Refusing
+pub mod Choosing
+pub mod Texts
+pub mod Walking
+pub mod Laws
