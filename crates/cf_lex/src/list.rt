@@ -27,6 +27,13 @@ impl Model for Tokens {
 }
 
 impl Tokens {
+    /// How many bytes the text has.
+    pub fn text_len(&self) -> u32
+        ensures { result ≡ length self.now.text }
+    {
+        self.text.len() as u32
+    }
+
     /// How many tokens there are.
     pub fn len(&self) -> u32
         ensures { result ≡ length self.now.tokens }
