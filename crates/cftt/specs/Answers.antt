@@ -2,7 +2,7 @@
 use Rattle.std.specs.Prelude.{◌≡◌, ℕ, suc, ◌+◌, ◌<◌, ◌≤◌, List, [], ◌∷◌, ◌++◌, length, take, codes, Option, Result, Ok, Err}
 use Rattle.std.specs.Io.KnownBytes.{Appends, Consumes}
 use Rattle.cf_base.specs.Causes.{Rose, GivesAll, TakesFront}
-use Rattle.cf_parse.specs.Refusals.{IsNoProgram}
+use Rattle.cf_sums.specs.Refusals.{IsNoProgram}
 use Rattle.cftt.specs.Built.{BuiltFrom}
 use Rattle.cftt.specs.declared.top.Report.{Report}
 use Rattle.cftt.specs.declared.top.Refusal.{Refusal}

@@ -1,7 +1,7 @@
 -- What building a source answers.
 use Rattle.std.specs.Prelude.{◌≡◌, ℕ, List}
-use Rattle.cf_parse.specs.declared.ends.ParseEnd.{ParseEnd}
-use Rattle.cf_parse.specs.Sums.{Sum, Reads}
+use Rattle.cf_sums.specs.declared.ends.ParseEnd.{ParseEnd}
+use Rattle.cf_sums.specs.Sums.{Sum, Reads}
 use Rattle.wb_syntax.specs.declared.syntax.Module.{Module}
 use Rattle.wb_syntax.specs.Binary.{Encodes}
 use Rattle.wb_syntax.specs.Typing.{Valid}

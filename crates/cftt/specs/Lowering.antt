@@ -1,7 +1,7 @@
 -- The object program of a sum, and its module.
 use Rattle.std.specs.Prelude.{ℕ, zero, suc, ◌+◌, ◌-◌, ◌*◌, ◌/◌, ◌%◌, List, [], ◌∷◌, ◌++◌, length, Bool, true, false, if◌then◌else◌, ℤ, pos, negsuc, Some, FitsSigned}
 use Rattle.std.specs.Int.{w64}
-use Rattle.cf_parse.specs.Sums.{Sum, Number, Plus}
+use Rattle.cf_sums.specs.Sums.{Sum, Number, Plus}
 use Rattle.cf_object.specs.Obj.{Obj, Lit, Prim, Add, Value, WholeT}
 use Rattle.cf_object.specs.Program.{ObjDecl}
 use Rattle.wb_syntax.specs.declared.syntax.NumType.TheVariants.{I64}

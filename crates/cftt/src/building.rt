@@ -1,10 +1,10 @@
 // From the bytes of a source to the bytes of a module.
 ghost use Rattle.std.specs.Prelude.{IfOk, IfErr};
-ghost use Rattle.cf_parse.specs.Refusals.{IsRefused};
+ghost use Rattle.cf_sums.specs.Refusals.{IsRefused};
 ghost use Rattle.cftt.specs.Built.{BuiltFrom};
 
 use crate::lowering::lowered;
-use cf_parse::{ParseEnd, first};
+use cf_sums::{ParseEnd, first};
 use std::alloc::Global;
 use wb_encode::encode;
 

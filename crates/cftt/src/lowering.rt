@@ -1,9 +1,9 @@
 // The module of a sum.
 ghost use Rattle.std.specs.Prelude.{◌≡◌, ◌++◌, [], ◌∷◌, OnOk, IfOk};
-ghost use Rattle.cf_parse.specs.Sums.{sum_of};
+ghost use Rattle.cf_sums.specs.Sums.{sum_of};
 ghost use Rattle.cftt.specs.Lowering.{AllFit, instructions, module_of};
 
-use cf_parse::First;
+use cf_sums::First;
 use sqlite_items::Items;
 use std::alloc::{AllocError, Global};
 use wb_syntax::{Export, Exported, Func, FuncType, Instr, Module, Name, NumType};

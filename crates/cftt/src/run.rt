@@ -7,7 +7,7 @@ use crate::building::built;
 use crate::command_line::read_line;
 use crate::top::{Refusal, Report};
 use cf_base::{ReadEnd, Sink, Source, read_all, write_all};
-use cf_parse::ParseEnd;
+use cf_sums::ParseEnd;
 use std::alloc::Global;
 
 /// The most bytes of a source.

@@ -1,7 +1,7 @@
 use Rattle.std.proofs.Common.{sym, subst, arith}
 use Rattle.wb_syntax.specs.Binary.{Encodes}
 use Rattle.wb_encode.specs.Encodable.{AreBodiesWellNested, AreInitialValuesWellNested, AreOfTable, AreLocalsFew}
-use Rattle.cf_parse.specs.Sums.{sum_of}
+use Rattle.cf_sums.specs.Sums.{sum_of}
 use Rattle.cftt.specs.Lowering.{module_of}
 use Rattle.cftt.proofs.Alike.{ends_alike}
 use Rattle.cftt.proofs.Encodable.{well_nested, of_table, few_locals}

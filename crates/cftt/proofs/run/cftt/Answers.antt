@@ -1,5 +1,5 @@
 use Rattle.std.proofs.Common.{◌≤◌, length, subst}
-use Rattle.cf_parse.specs.Refusals.{IsNoProgram}
+use Rattle.cf_sums.specs.Refusals.{IsNoProgram}
 use Rattle.cftt.specs.Answers.{Build}
 use Rattle.cftt.proofs.run.cftt.Goals as goal
 
