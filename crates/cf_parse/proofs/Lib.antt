@@ -1,0 +1,10 @@
+pub mod Choices
+pub mod Decimals
+pub mod Deriving
+pub mod Judging
+pub mod Places
+pub mod Ranges
+pub mod Refusing
+pub mod Sides
+pub mod Steps
+pub mod Unique

@@ -1,0 +1,12 @@
+pub mod Tokens
+pub mod Derivation
+pub mod Words
+pub mod Meaning
+pub mod Reads
+pub mod Refusals
+pub mod Laws
+pub mod Standing
+pub mod Steps
+pub mod Kinds
+pub mod Built
+pub mod Checks

@@ -1,0 +1,86 @@
+-- What stands at some tokens, where each right side is the one that the table gives for the next token: so it is told apart token by token.
+use Rattle.std.specs.Prelude.{ℕ, Bool, true, false, List, [], ◌∷◌, Some, None, slice_get, ◌≡◌}
+use Rattle.cf_base.specs.declared.at.At.{At}
+use Rattle.cf_grammar.specs.Choosing.{which}
+use Rattle.cf_grammar.specs.Grammar.{rules, Takes}
+use Rattle.cf_grammar.specs.declared.classes.Class.{Class}
+use Rattle.cf_grammar.specs.declared.classes.Class.TheVariants as class
+use Rattle.cf_grammar.specs.declared.phrases.Phrase.{Phrase}
+use Rattle.cf_grammar.specs.declared.phrases.Symbol.{Symbol}
+use Rattle.cf_grammar.specs.declared.phrases.Symbol.TheVariants.{Phrase as a}
+use Rattle.cf_parse.specs.Meaning.{Sem, nothing, meaning, place}
+use Rattle.cf_parse.specs.Meaning as meant
+use Rattle.cf_parse.specs.Reads.{in_range}
+use Rattle.cf_parse.specs.Tokens.{Token}
+
+-- the class of the next token
+abbrev pub front : List Token → Class
+front [] = class.End
+front (k ∷ ks) = k.class
+
+-- the tokens behind the next one
+abbrev pub behind : List Token → List Token
+behind [] = []
+behind (k ∷ ks) = ks
+
+-- whether a right side without symbols is among these
+abbrev pub nullable : List (List Symbol) → Bool
+nullable [] = false
+nullable ([] ∷ rs) = true
+nullable ((y ∷ ys) ∷ rs) = nullable rs
+
+mutual
+  -- the symbol stands at these tokens and means this; the tokens behind it are left
+  pub data Stands (b : Bool) : Symbol → List Token → Sem → List Token → Type 0 where
+    token : {y : Symbol} {k : Token} {ks : List Token} → Takes y k.class → in_range k.class k.text ≡ true → Stands b y (k ∷ ks) (meant.token (place b k.at) k.class k.text) ks
+    empty : {n : Phrase} {k : Token} {ks : List Token} → which n k.class ≡ None → nullable (rules n) ≡ true → Stands b (a n) (k ∷ ks) nothing (k ∷ ks)
+    phrase : {n : Phrase} {k : Token} {ks : List Token} {w : ℕ} {r : List Symbol} {vs : List Sem} {rest : List Token} → which n k.class ≡ Some w → slice_get (rules n) w ≡ Some r → StandAll b r (k ∷ ks) vs rest → Stands b (a n) (k ∷ ks) (meaning n w (place b k.at) vs) rest
+
+  -- these symbols stand there, one behind the other
+  pub data StandAll (b : Bool) : List Symbol → List Token → List Sem → List Token → Type 0 where
+    none : {ks : List Token} → StandAll b [] ks [] ks
+    both : {y : Symbol} {ys : List Symbol} {v : Sem} {vs : List Sem} {ks ls rest : List Token} → Stands b y ks v ls → StandAll b ys ls vs rest → StandAll b (y ∷ ys) ks (v ∷ vs) rest
+
+-- where a phrase of this family stands at the tokens, f makes x of its meaning, and ls are left
+pub record Folds {I A : Type 0} (F : I → Phrase) (b : Bool) (ks : List Token) (f : Sem → A) (x : A) (ls : List Token) : Type 0 where
+  pub made : (i : I) (v : Sem) (m : List Token) → Stands b (a (F i)) ks v m → (f v ≡ x) × (m ≡ ls)
+
+-- it means s
+abbrev pub Means : {I : Type 0} → (I → Phrase) → Bool → List Token → Sem → List Token → Type 0
+Means F b ks s ls = Folds F b ks (λ v. v) s ls
+
+-- where these symbols stand at the tokens, f makes s of their meanings, and ls are left
+pub record Ends {I : Type 0} (r : I → List Symbol) (b : Bool) (ks : List Token) (f : List Sem → Sem) (s : Sem) (ls : List Token) : Type 0 where
+  pub made : (i : I) (vs : List Sem) (m : List Token) → StandAll b (r i) ks vs m → (f vs ≡ s) × (m ≡ ls)
+
+-- a phrase that stands at a place, that f makes x of, and that ends at m
+pub record Found {J A : Type 0} (G : J → Phrase) (b : Bool) (ls : List Token) (g : Sem → A) (x : A) (m : List Token) : Type 0 where
+  pub index : J
+  pub sem : Sem
+  pub stands : Stands b (a (G index)) ls sem m
+  pub same : x ≡ g sem
+
+-- where a phrase of the family F stands at ks, one of the family G stands at ls and ends as it does, and what f makes of the one is what g makes of the other
+pub record Goes {I J A : Type 0} (F : I → Phrase) (b : Bool) (ks : List Token) (f : Sem → A) (G : J → Phrase) (ls : List Token) (g : Sem → A) : Type 0 where
+  pub on : (i : I) (v : Sem) (m : List Token) → Stands b (a (F i)) ks v m → Found G b ls g (f v) m
+
+-- the place of the first of these tokens
+abbrev pub IsPlace : Bool → List Token → At → Type 0
+IsPlace b ks p = (k : Token) (ls : List Token) → ks ≡ k ∷ ls → p ≡ place b k.at
+
+-- the bytes of the first of these tokens, where it is a name
+abbrev pub IsName : List Token → List ℕ → Type 0
+IsName ks x = (k : Token) (ls : List Token) (p : Bool) → ks ≡ k ∷ ls → k.class ≡ class.Name p → x ≡ k.text
+
+-- the number of the first of these tokens, where it is of this class
+abbrev pub IsNumber : {N : Type 0} → Class → (List ℕ → N) → List Token → N → Type 0
+IsNumber c of_text ks z = (k : Token) (ls : List Token) → ks ≡ k ∷ ls → k.class ≡ c → in_range k.class k.text ≡ true → of_text k.text ≡ z
+
+abbrev pub is_end : Class → Bool
+is_end (class.Name p) = false
+is_end (class.Word y) = false
+is_end class.Whole = false
+is_end class.NatLit = false
+is_end class.Hole = false
+is_end (class.Mark z) = false
+is_end class.End = true

@@ -1,0 +1,85 @@
+// Whether the tokens of a text are a program, and why not.
+ghost use Rattle.std.specs.Prelude.{◌≡◌, ◌∷◌, ◌≤◌, List, IfErr, IfOk, length};
+ghost use Rattle.cf_grammar.specs.Refusing.{Says};
+ghost use Rattle.cf_parse.specs.Checks.{FirstBad};
+ghost use Rattle.cf_parse.specs.Reads.{Reads, in_range};
+ghost use Rattle.cf_parse.specs.Refusals.{IsRefused};
+ghost use Rattle.cf_parse.specs.Steps.{from};
+ghost use Rattle.cf_parse.specs.Tokens as spec;
+ghost use Rattle.cf_parse.specs.Tokens.{classes, tokens_of};
+ghost use Rattle.cf_tree.specs.Tree as trees;
+
+use crate::ends::{OutOfMemory, ParseEnd};
+use crate::numbers::is_in_range;
+use crate::source::{Source, class_of};
+use cf_grammar::{Class, Ending, Fault};
+
+impl Source<'_> {
+    // The classes of all tokens, the end as the last.
+    pub fn classes(&self) -> Result<Vec<Class>, OutOfMemory>
+        ensures { IfOk result (λ v. v.items ≡ classes (tokens_of self.now.tokens.now)) }
+    {
+        let mut classes = Vec::new(self.alloc);
+        for at in 0..self.tokens.len() as usize + 1 {
+            classes.push(self.class(at))?;
+        }
+        Ok(classes)
+    }
+
+    // Whether the token with this number is no number out of its range.
+    fn is_in_range(&self, at: usize) -> bool
+        ensures { (k : spec.Token) (ls : List spec.Token) → from self.now at ≡ k ∷ ls → result ≡ in_range k.class k.text }
+    {
+        match self.get(at) {
+            Some(t) => {
+                let text = self.tokens.text(t);
+                is_in_range(class_of(t.kind, text), text)
+            }
+            None => true,
+        }
+    }
+
+    // The number of the first token that is a number out of its range, or else of the last.
+    pub fn first_literal(&self) -> usize
+        ensures { FirstBad (tokens_of self.now.tokens.now) result }
+    {
+        let len = self.tokens.len() as usize;
+        let mut at: usize = 0;
+        while at < len && self.is_in_range(at) {
+            at += 1;
+        }
+        at
+    }
+
+    // What is answered, by what the grammar says and the first number out of range.
+    pub fn judged(&self, ending: Ending, literal: usize) -> Result<(), ParseEnd>
+        requires says { Says (classes (tokens_of self.now.tokens.now)) ending }
+        requires literal { FirstBad (tokens_of self.now.tokens.now) literal }
+        ensures fine { IfOk result (λ _. (p : trees.Program) × Reads self.now.prelude self.now.tokens.now p) }
+        ensures refused { IfErr result (λ e. IsRefused self.now.prelude self.now.tokens.now e) }
+    {
+        match ending {
+            Ending::Fine => {
+                if literal < self.tokens.len() as usize {
+                    return Err(ParseEnd::Literal(self.place(literal)));
+                }
+                Ok(())
+            }
+            Ending::Syntax(at) => {
+                if literal < at {
+                    return Err(ParseEnd::Literal(self.place(literal)));
+                }
+                Err(ParseEnd::Syntax(self.place(at)))
+            }
+            Ending::Past(at, fault) => {
+                if literal < at {
+                    return Err(ParseEnd::Literal(self.place(literal)));
+                }
+                match fault {
+                    Fault::Many(limit) => Err(ParseEnd::TooMany(self.place(at), limit)),
+                    Fault::Nested => Err(ParseEnd::TooNested(self.place(at))),
+                }
+            }
+        }
+    }
+}

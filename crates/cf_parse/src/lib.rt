@@ -1,0 +1,19 @@
+//! Reads the tokens of a text as a program.
+#![tactic(auto)]
+
+mod checking;
+mod ends;
+mod kinds;
+mod laws;
+mod numbers;
+mod parsing;
+mod parts;
+mod source;
+#[cfg(test)]
+mod tests;
+mod words;
+
+pub use cf_base::Limit;
+pub use ends::ParseEnd;
+pub use laws::reads_one;
+pub use parsing::check;
