@@ -1,0 +1,10 @@
+//! Programs of the core: data declarations, meta definitions and object declarations.
+#![tactic(auto)]
+
+mod declarations;
+mod programs;
+#[cfg(test)]
+mod tests;
+
+pub use declarations::{Ctor, DataDecl};
+pub use programs::{CoreDecl, CoreProgram};

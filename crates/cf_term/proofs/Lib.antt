@@ -1,0 +1,9 @@
+pub mod Places
+pub mod Rebuilt
+pub mod Renaming
+pub mod UnderBinders
+pub mod Walked
+pub mod Measured
+pub mod Compared
+pub mod Rooted
+pub mod Equal

@@ -1,0 +1,11 @@
+pub mod Core
+pub mod Forms
+pub mod Codes
+pub mod View
+pub mod Falls
+pub mod Substitution
+pub mod Measures
+pub mod Same
+pub mod Numbered
+pub mod Laws
+pub mod Roots
