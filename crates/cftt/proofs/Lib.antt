@@ -1,6 +1,1 @@
 pub mod CommandLine
-pub mod SourceRuns
-pub mod ModuleRuns
-pub mod Alike
-pub mod Valid
-pub mod Encodable

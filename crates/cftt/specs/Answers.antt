@@ -1,12 +1,12 @@
 -- What the program answers, by its words, its input and what it wrote. A command or a refusal that comes later adds a case, and rewords none.
-use Rattle.std.specs.Prelude.{◌≡◌, ℕ, suc, ◌+◌, ◌<◌, ◌≤◌, List, [], ◌∷◌, ◌++◌, length, take, codes, Option, Result, Ok, Err}
+use Rattle.std.specs.Prelude.{◌≡◌, ◌⊎◌, ℕ, suc, ◌+◌, ◌<◌, ◌≤◌, List, [], ◌∷◌, ◌++◌, length, take, codes, Option, Result, Ok, Err}
 use Rattle.std.specs.Io.KnownBytes.{Appends, Consumes}
 use Rattle.cf_base.specs.Causes.{Rose, GivesAll, TakesFront}
-use Rattle.cf_sums.specs.Refusals.{IsNoProgram}
-use Rattle.cftt.specs.Built.{BuiltFrom}
+use Rattle.cf_diag.specs.Refusals.{refusal_text}
+use Rattle.cf_diag.specs.declared.refusal.Refusal.{Refusal}
+use Rattle.cf_diag.specs.declared.refusal.Refusal.TheVariants.{Usage, ReadFault, TooLong, WriteFault, NoMemory}
+use Rattle.cf_driver.specs.Built.{BuiltFrom, IsNotBuilt}
 use Rattle.cftt.specs.declared.top.Report.{Report}
-use Rattle.cftt.specs.declared.top.Refusal.{Refusal}
-use Rattle.cftt.specs.declared.top.Refusal.TheVariants.{Usage, ReadFault, TooLong, Syntax, WriteFault, NoMemory}
 
 -- ---- words
 
@@ -57,18 +57,15 @@ pub record IsTooLong (c : Command) (old new : Ends) : Type 0 where
   pub count : length given ≡ most_bytes c + 1
   pub consumed : Consumes old.left new.left given
 
--- the input was read to its end and is no program; the place lies in it
-pub record IsNoSource (c : Command) (old new : Ends) (offset : ℕ) : Type 0 where
-  pub source : List ℕ
-  pub whole : HasInput c old new source
-  pub none : IsNoProgram source
-  pub within : offset ≤ length source
-
 -- ---- answers
 
 -- what a command writes for its input, and what it reports: one case for each command
 abbrev pub Writes : Command → (input : List ℕ) → Report → (output : List ℕ) → Type 0
 Writes Build source report bytes = (report ≡ record { code = 0; calls = 0 }) × BuiltFrom source bytes
+
+-- why a command refuses its input: one case for each command
+abbrev pub Refuses : Command → (input : List ℕ) → Refusal → Type 0
+Refuses Build source r = IsNotBuilt source r
 
 -- the command ended well: the input was read to its end, and all that it writes was taken
 pub record IsDone (words : List (List ℕ)) (old new : Ends) (report : Report) : Type 0 where
@@ -80,14 +77,21 @@ pub record IsDone (words : List (List ℕ)) (old new : Ends) (report : Report) :
   pub writes : Writes command input report output
   pub taken : Appends old.taken new.taken output
 
+-- the input was read to its end, and the command refuses it
+pub record IsRefused (c : Command) (old new : Ends) (r : Refusal) : Type 0 where
+  pub input : List ℕ
+  pub whole : HasInput c old new input
+  pub why : Refuses c input r
+
 -- the cause of each refusal; want of memory has none
 abbrev pub Caused : List (List ℕ) → (old new : Ends) → Refusal → Type 0
 Caused words old new (Usage i) = IsUsage words i
 Caused words old new ReadFault = OnLine words (λ c. Rose old.read_faults new.read_faults)
 Caused words old new TooLong = OnLine words (λ c. IsTooLong c old new)
-Caused words old new (Syntax at) = OnLine words (λ c. IsNoSource c old new at.offset)
 Caused words old new WriteFault = OnLine words (λ c. Rose old.write_faults new.write_faults)
 Caused words old new NoMemory = Unit {0}
+-- all others are of what the input says
+Caused words old new r = OnLine words (λ c. IsRefused c old new r)
 
 -- a front of what the command writes was taken
 pub record IsCutOff (c : Command) (old new : Ends) : Type 0 where
@@ -100,17 +104,28 @@ pub record IsCutOff (c : Command) (old new : Ends) : Type 0 where
 
 -- what a refusal leaves in the output: nothing new, but where the write failed
 abbrev pub Leaves : List (List ℕ) → (old new : Ends) → Refusal → Type 0
-Leaves words old new (Usage i) = new.taken ≡ old.taken
-Leaves words old new ReadFault = new.taken ≡ old.taken
-Leaves words old new TooLong = new.taken ≡ old.taken
-Leaves words old new (Syntax at) = new.taken ≡ old.taken
 Leaves words old new WriteFault = OnLine words (λ c. IsCutOff c old new)
-Leaves words old new NoMemory = new.taken ≡ old.taken
+Leaves words old new r = new.taken ≡ old.taken
 
 -- this holds where the refusal is Usage
 abbrev pub OnUsage : Refusal → Type 0 → Type 0
 OnUsage (Usage i) P = P
 OnUsage _ P = Unit {0}
+
+-- ---- the error stream
+
+-- what is known of the error stream at one moment
+pub record Errors : Type 0 where
+  pub taken : Option (List ℕ)
+  pub faults : ℕ
+
+-- the whole text was taken, or a write failed and a front of it was taken
+abbrev pub IsWritten : (old new : Errors) → List ℕ → Type 0
+IsWritten old new text = Appends old.taken new.taken text ⊎ (Rose old.faults new.faults × TakesFront old.taken new.taken text)
+
+-- the refusal was told: its line was written
+abbrev pub IsTold : (old new : Errors) → Refusal → Type 0
+IsTold old new r = IsWritten old new (refusal_text r)
 
 -- ---- status
 

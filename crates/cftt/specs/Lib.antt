@@ -1,4 +1,1 @@
-pub mod Agreement
-pub mod Lowering
-pub mod Built
 pub mod Answers

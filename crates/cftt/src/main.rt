@@ -1,10 +1,9 @@
-//! `cftt`: its top call, the command lines, and what lies between the libraries.
+//! `cftt`: the program, and its top call.
 #![tactic(auto)]
 
-mod building;
 mod command_line;
-mod lowering;
 mod run;
+mod telling;
 mod top;
 
 use cf_base::{StdSink, StdSource};

@@ -4,27 +4,25 @@ use std::test::Fail;
 
 const DONE: Result<Report, Refusal> = Ok(Report { code: 0, calls: 0 });
 
-const SYNTAX: Result<Report, Refusal> = Err(Refusal::Syntax(At {
-    prelude: false,
-    offset: 0,
-}));
-
 const SUM: &[u8] = b"main : Int := add 3 4;";
 
-// How the input comes, and where the output goes: pieces of so many bytes, room for so many, and the numbers of the calls that fail.
+// How the input comes, and where the output and the refusals go: pieces of so many bytes, room for so many, and the numbers of the calls that
+// fail.
 #[derive(Clone, Copy)]
 struct Ends<'a> {
     piece: usize,
     room: usize,
     read_fails: &'a [u64],
     write_fails: &'a [u64],
+    tell_fails: &'a [u64],
 }
 
 const SOUND: Ends<'static> = Ends {
-    piece: 7,
-    room: 1000,
+    piece: 4096,
+    room: 4000,
     read_fails: &[],
     write_fails: &[],
+    tell_fails: &[],
 };
 
 // The answer, and what the output and the error stream took.
@@ -32,7 +30,7 @@ const SOUND: Ends<'static> = Ends {
 struct Seen {
     end: Result<Report, Refusal>,
     written: Vec<u8>,
-    told: usize,
+    told: Vec<u8>,
 }
 
 fn run(rt: &HostRuntime, words: &[&str], text: &[u8], ends: &Ends<'_>) -> Result<Seen, Fail> {
@@ -47,79 +45,228 @@ fn run(rt: &HostRuntime, words: &[&str], text: &[u8], ends: &Ends<'_>) -> Result
         ends.read_fails.to_vec(alloc)?,
     );
     let mut out = MemSink::new(alloc, ends.room, 4, ends.write_fails.to_vec(alloc)?)?;
-    let mut err = MemSink::new(alloc, 1000, 4, Vec::new(alloc))?;
+    let mut err = MemSink::new(alloc, 1000, 4, ends.tell_fails.to_vec(alloc)?)?;
     let end = cftt(alloc, &owned, &mut input, &mut out, &mut err);
     Ok(Seen {
         end,
         written: out.taken().to_vec(alloc)?,
-        told: err.taken().len(),
+        told: err.taken().to_vec(alloc)?,
     })
 }
 
 #[test]
-fn words_and_texts(rt: HostRuntime) -> Result<(), Fail> {
-    let seen = run(&rt, &["build"], SUM, &SOUND)?;
-    assert_eq!(rt; seen.end, DONE);
-    assert!(rt; seen.written.starts_with(b"\0asm\x01\0\0\0"));
-    assert_eq!(rt; seen.told, 0);
-    for (words, text, want) in [
-        (["build", "x"].as_slice(), SUM, Err(Refusal::Usage(1))),
-        (&[], SUM, Err(Refusal::Usage(0))),
-        (&["builds"], SUM, Err(Refusal::Usage(0))),
-        (&["x", "build"], SUM, Err(Refusal::Usage(0))),
-        (&["build", "--pages", "2"], SUM, Err(Refusal::Usage(1))),
-        (&["build"], b"main : Int := add 3;", SYNTAX),
-        (&["build"], b"main : Int := x;", SYNTAX),
-        (&["build"], b"", SYNTAX),
-        (&["build"], b"\xFF", SYNTAX),
-    ] {
-        let seen = run(&rt, words, text, &SOUND)?;
-        assert_eq!(rt; seen.end, want);
-        assert_eq!(rt; seen.written.len(), 0);
-        assert_eq!(rt; seen.told, 0);
+fn sums_are_built(rt: HostRuntime) -> Result<(), Fail> {
+    for text in [SUM, b"main:Int:=(add(-1)((2)));--".as_slice()] {
+        let seen = run(&rt, &["build"], text, &SOUND)?;
+        assert_eq!(rt; seen.end, DONE);
+        assert!(rt; seen.written.starts_with(b"\0asm\x01\0\0\0"));
+        assert_eq!(rt; seen.told.len(), 0);
     }
     Ok(())
 }
 
 #[test]
-fn faults(rt: HostRuntime) -> Result<(), Fail> {
-    let whole = run(&rt, &["build"], SUM, &SOUND)?.written;
-    // 22 bytes in pieces of 7, and the read that finds the end: a sixth read is not made, and so fails nothing.
+fn refused(rt: HostRuntime) -> Result<(), Fail> {
+    for (words, text, status_wanted, line) in [
+        ([].as_slice(), SUM, 2, "refused: usage at word 0\n"),
+        (&["builds"], SUM, 2, "refused: usage at word 0\n"),
+        (&["x", "build"], SUM, 2, "refused: usage at word 0\n"),
+        (&["build", "x"], SUM, 2, "refused: usage at word 1\n"),
+        (&["build"], b"\xFF", 1, "refused: not text at 0\n"),
+        (
+            &["build"],
+            b"main : Int := 1 % 2;",
+            1,
+            "refused: bad character at 16\n",
+        ),
+        (&["build"], b"main : Int := ;", 1, "refused: syntax at 14\n"),
+        (&["build"], b"main Int", 1, "refused: syntax at 5\n"),
+        (&["build"], b"main : Int := 1", 1, "refused: syntax at 15\n"),
+        (
+            &["build"],
+            b"main : Int := add 3;",
+            1,
+            "refused: syntax at 19\n",
+        ),
+        (
+            &["build"],
+            b"explicit;\nmain : V Int := _;",
+            1,
+            "refused: syntax at 26\n",
+        ),
+        (
+            &["build"],
+            b"main : Int := 9223372036854775808;",
+            1,
+            "refused: literal out of range at 14\n",
+        ),
+        (
+            &["build"],
+            b"main : Int := 9223372036854775808 )",
+            1,
+            "refused: literal out of range at 14\n",
+        ),
+        (
+            &["build"],
+            b"main : Int := 1 9223372036854775808;",
+            1,
+            "refused: literal out of range at 16\n",
+        ),
+        (
+            &["build"],
+            b"meta n : Nat := #65; main : Int := 1;",
+            1,
+            "refused: literal out of range at 16\n",
+        ),
+        (
+            &["build"],
+            b"main : Int := f 1 1 1 1 1 1 1 1 1 1 1 1 1 1 1 1 1;",
+            1,
+            "refused: too many arguments at 48\n",
+        ),
+        (&["build"], b"", 1, "refused: form not built yet\n"),
+        (
+            &["build"],
+            b"main : Int := x;",
+            1,
+            "refused: form not built yet\n",
+        ),
+        (
+            &["build"],
+            b"main : V Int := 7;",
+            1,
+            "refused: form not built yet\n",
+        ),
+        (
+            &["build"],
+            b"explicit; main : V Int := 7;",
+            1,
+            "refused: form not built yet\n",
+        ),
+        (
+            &["build"],
+            b"use prelude; main : Int := 7;",
+            1,
+            "refused: form not built yet\n",
+        ),
+        (
+            &["build"],
+            b"other : Int := 7;",
+            1,
+            "refused: form not built yet\n",
+        ),
+        (
+            &["build"],
+            b"main : Int := sub 1 2;",
+            1,
+            "refused: form not built yet\n",
+        ),
+    ] {
+        let seen = run(&rt, words, text, &SOUND)?;
+        assert_eq!(rt; status(&seen.end), status_wanted, "{line}");
+        assert_eq!(rt; seen.told.as_slice(), line.as_bytes());
+        assert_eq!(rt; seen.written.len(), 0);
+    }
+    Ok(())
+}
+
+// `main : Int := 7;` with so many parentheses around the number.
+fn enclosed(rt: &HostRuntime, depth: usize) -> Result<Vec<u8>, Fail> {
+    let mut text = b"main : Int := ".to_vec(rt.alloc())?;
+    for _ in 0..depth {
+        text.push(b'(')?;
+    }
+    text.push(b'7')?;
+    for _ in 0..depth {
+        text.push(b')')?;
+    }
+    text.push(b';')?;
+    Ok(text)
+}
+
+// So many declarations of 20 bytes, each with a name of its own.
+fn declarations(rt: &HostRuntime, count: u32) -> Result<Vec<u8>, Fail> {
+    let alloc = rt.alloc();
+    let mut text = Vec::new(alloc);
+    for k in 0..count {
+        let number = 1000 + k % 9000;
+        let declaration = format!(in alloc; "meta  a{number}:Nat:=#0;")?;
+        text.extend_from_slice(declaration.as_bytes())?;
+    }
+    text.extend_from_slice(b"main : Int := 1;")?;
+    Ok(text)
+}
+
+#[test]
+fn limits(rt: HostRuntime) -> Result<(), Fail> {
+    let seen = run(&rt, &["build"], &enclosed(&rt, 199)?, &SOUND)?;
+    assert_eq!(rt; seen.end, DONE);
+    let seen = run(&rt, &["build"], &enclosed(&rt, 200)?, &SOUND)?;
+    assert_eq!(rt;
+        seen.told.as_slice(),
+        b"refused: nested too deep at 214\n".as_slice()
+    );
+    let seen = run(&rt, &["build"], &declarations(&rt, 4095)?, &SOUND)?;
+    assert_eq!(rt;
+        seen.told.as_slice(),
+        b"refused: form not built yet\n".as_slice()
+    );
+    let seen = run(&rt, &["build"], &declarations(&rt, 4096)?, &SOUND)?;
+    assert_eq!(rt;
+        seen.told.as_slice(),
+        b"refused: too many declarations at 81920\n".as_slice()
+    );
+    let mut text = vec![in rt.alloc(); b' '; 1_048_576 - SUM.len()]?;
+    text.extend_from_slice(SUM)?;
+    let seen = run(&rt, &["build"], &text, &SOUND)?;
+    assert_eq!(rt; seen.end, DONE);
+    text.push(b' ')?;
+    let seen = run(&rt, &["build"], &text, &SOUND)?;
+    assert_eq!(rt;
+        seen.told.as_slice(),
+        b"refused: input too long\n".as_slice()
+    );
+    assert_eq!(rt; seen.written.len(), 0);
+    Ok(())
+}
+
+#[test]
+fn failing_reads(rt: HostRuntime) -> Result<(), Fail> {
+    // 22 bytes in pieces of 7, and the read that finds the end: a sixth read is not made, and so fails nothing
     for number in 1..=6 {
         let fails = [number];
-        let read_fails = fails.as_slice();
-        let seen = run(
-            &rt,
-            &["build"],
-            SUM,
-            &Ends {
-                read_fails,
-                ..SOUND
-            },
-        )?;
-        let want = if number < 6 {
-            Err(Refusal::ReadFault)
-        } else {
-            DONE
+        let ends = Ends {
+            piece: 7,
+            read_fails: fails.as_slice(),
+            ..SOUND
         };
-        assert_eq!(rt; seen.end, want, "read {number}");
+        let seen = run(&rt, &["build"], SUM, &ends)?;
+        assert_eq!(rt; seen.end.is_ok(), number == 6, "read {number}");
         assert_eq!(rt; seen.written.is_empty(), number < 6);
+        assert_eq!(rt;
+            seen.told.as_slice() == b"refused: read fault\n".as_slice(),
+            number < 6
+        );
     }
+    Ok(())
+}
+
+#[test]
+fn failing_writes(rt: HostRuntime) -> Result<(), Fail> {
+    let whole = run(&rt, &["build"], SUM, &SOUND)?.written;
     for number in 1..=whole.len().div_ceil(4) {
         let fails = [number as u64];
-        let write_fails = fails.as_slice();
-        let seen = run(
-            &rt,
-            &["build"],
-            SUM,
-            &Ends {
-                write_fails,
-                ..SOUND
-            },
-        )?;
-        let front = &whole[..whole.len().min(4 * (number - 1))];
+        let ends = Ends {
+            write_fails: fails.as_slice(),
+            ..SOUND
+        };
+        let seen = run(&rt, &["build"], SUM, &ends)?;
         assert_eq!(rt; seen.end, Err(Refusal::WriteFault), "write {number}");
-        assert_eq!(rt; seen.written.as_slice(), front);
+        assert_eq!(rt;
+            seen.written.as_slice(),
+            &whole[..whole.len().min(4 * (number - 1))]
+        );
+        assert_eq!(rt; seen.told.as_slice(), b"refused: write fault\n".as_slice());
     }
     for room in [0, 1, 10] {
         let seen = run(&rt, &["build"], SUM, &Ends { room, ..SOUND })?;
@@ -129,35 +276,37 @@ fn faults(rt: HostRuntime) -> Result<(), Fail> {
     let seen = run(&rt, &["build"], SUM, &Ends { piece: 1, ..SOUND })?;
     assert_eq!(rt; seen.end, DONE);
     assert_eq!(rt; seen.written, whole);
-    Ok(())
-}
-
-#[test]
-fn long_inputs(rt: HostRuntime) -> Result<(), Fail> {
-    let ends = Ends {
-        piece: 100_000,
-        ..SOUND
-    };
-    let mut text = vec![in rt.alloc(); b' '; 1_048_576 - SUM.len()]?;
-    text.extend_from_slice(SUM)?;
-    let seen = run(&rt, &["build"], &text, &ends)?;
-    assert_eq!(rt; seen.end, DONE);
-    text.push(b' ')?;
-    let seen = run(&rt, &["build"], &text, &ends)?;
-    assert_eq!(rt; seen.end, Err(Refusal::TooLong));
-    assert_eq!(rt; seen.written.len(), 0);
+    // a fault of the error stream changes no answer: what was taken before it stays
+    for number in 1..=3 {
+        let fails = [number];
+        let ends = Ends {
+            tell_fails: fails.as_slice(),
+            ..SOUND
+        };
+        let seen = run(&rt, &["build"], b"\xFF", &ends)?;
+        assert_eq!(rt; seen.end, Err(Refusal::NotText(0)));
+        assert_eq!(rt;
+            seen.told.as_slice(),
+            &b"refused: not"[..4 * (number as usize - 1)]
+        );
+    }
     Ok(())
 }
 
 #[test]
 fn statuses(rt: HostRuntime) {
+    let at = At {
+        prelude: false,
+        offset: 0,
+    };
     for (end, want) in [
         (DONE, 0),
         (Ok(Report { code: 3, calls: 5 }), 3),
         (Err(Refusal::Usage(7)), 2),
         (Err(Refusal::ReadFault), 1),
         (Err(Refusal::TooLong), 1),
-        (SYNTAX, 1),
+        (Err(Refusal::Syntax(at)), 1),
+        (Err(Refusal::Later), 1),
         (Err(Refusal::WriteFault), 1),
         (Err(Refusal::NoMemory), 1),
     ] {

@@ -7,7 +7,7 @@ use Rattle.wb_syntax.specs.Nesting.{Open, Closes}
 use Rattle.wb_encode.specs.Appended.{Every}
 use Rattle.wb_encode.specs.Encodable.{IsOfTable, AreBodiesWellNested, AreOfTable, AreLocalsFew}
 use Rattle.cf_sums.specs.Sums.{Sum, Number, Plus}
-use Rattle.cftt.specs.Lowering.{instructions, module_of}
+use Rattle.cf_driver.specs.Lowering.{instructions, module_of}
 
 -- the instructions of a sum before others, regrouped
 regrouped : (a b : Sum) (is : List Instr) → instructions (Plus a b) ++ is ≡ instructions a ++ (instructions b ++ (Binary 0x7C ∷ is))

@@ -12,11 +12,11 @@ use Rattle.cf_object.proofs.EndedStays.{ended_stays_lem}
 use Rattle.wb_syntax.specs.Runs.{RunEnd, Returned, StackFull, HasEnded, mach}
 use Rattle.wb_syntax.proofs.Longer.{mach_longer}
 use Rattle.cf_sums.specs.Sums.{Sum, Number, Plus}
-use Rattle.cftt.specs.Agreement.{Agrees, returned, IsOver, AreArguments, EndsAlike}
-use Rattle.cftt.specs.Lowering.{program_of, module_of, AllFit}
-use Rattle.cftt.proofs.SourceRuns.{value, program_ends}
-use Rattle.cftt.proofs.SourceRuns as source
-use Rattle.cftt.proofs.ModuleRuns.{bits, no_data, Comes, need, end_steps, mach_comes, mach_with_room}
+use Rattle.cf_driver.specs.Agreement.{Agrees, returned, IsOver, AreArguments, EndsAlike}
+use Rattle.cf_driver.specs.Lowering.{program_of, module_of, AllFit}
+use Rattle.cf_driver.proofs.SourceRuns.{value, program_ends}
+use Rattle.cf_driver.proofs.SourceRuns as source
+use Rattle.cf_driver.proofs.ModuleRuns.{bits, no_data, Comes, need, end_steps, mach_comes, mach_with_room}
 
 -- ---- the word that is left is the value
 

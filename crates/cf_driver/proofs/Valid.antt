@@ -8,8 +8,8 @@ use Rattle.wb_syntax.specs.Syntax.{Plain, Code, Nothing, Then}
 use Rattle.wb_syntax.specs.Table.{row_at}
 use Rattle.wb_syntax.specs.Typing.{Context, Types, IsTypedBody, FuncTypeOf, Memories, MemoryLimits, GlobalInit, ExportOf, Body, Valid}
 use Rattle.cf_sums.specs.Sums.{Sum, Number, Plus}
-use Rattle.cftt.specs.Lowering.{instructions, func_of, module_of}
-use Rattle.cftt.proofs.ModuleRuns.{code_of, flat_code}
+use Rattle.cf_driver.specs.Lowering.{instructions, func_of, module_of}
+use Rattle.cf_driver.proofs.ModuleRuns.{code_of, flat_code}
 
 types_add : (c : Context) (rest : Code) (a b : List NumType) → Types c rest (I64 ∷ a) b → Types c (Then (Plain (Binary 0x7C)) rest) (I64 ∷ I64 ∷ a) b
 unfolding row_at

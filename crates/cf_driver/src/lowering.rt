@@ -1,7 +1,7 @@
 // The module of a sum.
 ghost use Rattle.std.specs.Prelude.{◌≡◌, ◌++◌, [], ◌∷◌, OnOk, IfOk};
 ghost use Rattle.cf_sums.specs.Sums.{sum_of};
-ghost use Rattle.cftt.specs.Lowering.{AllFit, instructions, module_of};
+ghost use Rattle.cf_driver.specs.Lowering.{AllFit, instructions, module_of};
 
 use cf_sums::First;
 use sqlite_items::Items;

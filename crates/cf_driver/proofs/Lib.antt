@@ -1,0 +1,5 @@
+pub mod SourceRuns
+pub mod ModuleRuns
+pub mod Alike
+pub mod Valid
+pub mod Encodable

@@ -1,0 +1,4 @@
+pub mod Agreement
+pub mod Lowering
+pub mod Sources
+pub mod Built
