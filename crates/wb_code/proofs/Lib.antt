@@ -1,0 +1,2 @@
+-- going back over an instruction
+pub mod Passed
