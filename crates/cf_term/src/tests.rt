@@ -331,25 +331,6 @@ fn groups(rt: HostRuntime) -> Result<(), Fail> {
     Ok(())
 }
 
-#[test]
-fn branches_bind_their_names(rt: HostRuntime) -> Result<(), Fail> {
-    let alloc = rt.alloc();
-    let (t, want) = (cases(alloc, 3, &[3, 3, 3])?, cases(alloc, 13, &[13, 3, 3])?);
-    assert!(rt; shifts(alloc, t, 3, want));
-    let (t, want) = (cases(alloc, 3, &[3, 4, 5])?, cases(alloc, 7, &[7, 8, 9])?);
-    assert!(rt; puts(alloc, t, 3, want));
-    Ok(())
-}
-
-#[test]
-fn counts_of_many_parts(rt: HostRuntime) -> Result<(), Fail> {
-    let alloc = rt.alloc();
-    assert!(rt; counts(alloc, made(alloc, 2, 3)?, 3, 2));
-    assert!(rt; counts(alloc, group(alloc, 3, 4, 5)?, 6, 2));
-    assert!(rt; counts(alloc, cases(alloc, 3, &[3, 4, 5])?, 6, 2));
-    Ok(())
-}
-
 // whether the two forms are the same
 fn agree(t: TermNode, u: TermNode) -> bool {
     same(&written(t), &written(u))
