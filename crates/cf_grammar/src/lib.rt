@@ -3,15 +3,18 @@
 
 mod atoms;
 mod beginning;
+mod choosing;
 mod classes;
 mod declarations;
 mod endings;
+mod kinds;
 mod laws;
 mod limits;
 mod lists;
 mod opening;
 mod parts;
 mod phrases;
+mod productions;
 mod stacking;
 mod terms;
 #[cfg(test)]
@@ -23,9 +26,11 @@ pub use beginning::{
     begins_argument, begins_atom, begins_binder, begins_constant, begins_declaration, begins_head,
     begins_term,
 };
+pub use choosing::production;
 pub use classes::Class;
 pub use endings::{Ending, Fault};
 pub use laws::{apart, items_first, one_choice, one_derivation, one_ending};
 pub use limits::over;
 pub use phrases::{Phrase, Symbol};
+pub use productions::{Production, Step};
 pub use walking::walk;
