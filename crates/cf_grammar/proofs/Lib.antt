@@ -21,4 +21,5 @@ pub mod Standing
 pub mod Taking
 pub mod Equal
 pub mod Turns
+pub mod Following
 pub mod Texts

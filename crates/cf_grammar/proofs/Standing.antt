@@ -148,3 +148,11 @@ ends_at all (k ∷ ks) i s = no_end s.paired
   where
     no_end : {A : Type 0} → Paired [] (k ∷ ks) → A
     no_end (Stack.Paired.open' e t) = absurd e
+
+-- with an empty stack no token is left
+pub none_left : {all ks : List Class} (i : ℕ) → Standing all [] ks i → ks ≡ []
+none_left {ks = []} i s = refl
+none_left {ks = k ∷ ks} i s = no_end s.paired
+  where
+    no_end : {A : Type 0} → Paired [] (k ∷ ks) → A
+    no_end (Stack.Paired.open' e t) = absurd e

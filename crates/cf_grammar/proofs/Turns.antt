@@ -19,7 +19,7 @@ use Rattle.cf_grammar.proofs.Small.{AllSmall}
 use Rattle.cf_grammar.proofs.Standing.{Standing, After, more_left, turned, ends_at}
 
 -- the stack with its top taken off
-popped : (items rest : List Symbol) (y : Symbol) → items ≡ rest ++ y ∷ [] → reverse items ≡ y ∷ reverse rest
+pub popped : (items rest : List Symbol) (y : Symbol) → items ≡ rest ++ y ∷ [] → reverse items ≡ y ∷ reverse rest
 popped items rest y e = ap reverse e ∙ reverse-append rest (y ∷ [])
 
 top : {all : List Class} (items rest : List Symbol) (y : Symbol) (ks : List Class) (i : ℕ) → items ≡ rest ++ y ∷ [] → Standing all (reverse items) ks i → Standing all (y ∷ reverse rest) ks i
@@ -58,7 +58,7 @@ restated all ys i k most turn.Refuse e q = q
 restated all ys i k most (turn.Pass f) e q = q
 
 -- the next token and those behind it
-next : (all : List Class) (i : ℕ) (d : Class) → i < length all → drop i all ≡ get_or all i d ∷ drop (i + 1) all
+pub next : (all : List Class) (i : ℕ) (d : Class) → i < length all → drop i all ≡ get_or all i d ∷ drop (i + 1) all
 next all i d p = drop-cons all i d p ∙ ap (λ n. get_or all i d ∷ drop n all) (one_on i)
   where
     one_on : (n : ℕ) → suc n ≡ n + 1

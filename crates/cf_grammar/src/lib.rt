@@ -33,4 +33,4 @@ pub use laws::{apart, items_first, one_choice, one_derivation, one_ending};
 pub use limits::over;
 pub use phrases::{Phrase, Symbol};
 pub use productions::{Production, Step};
-pub use walking::walk;
+pub use walking::{Walked, walk};

@@ -233,7 +233,10 @@ fn classes_of(alloc: Global, text: &[u8]) -> Result<Vec<Class>, Fail>
 fn answer(alloc: Global, text: &str) -> Result<String, Fail> {
     let classes = classes_of(alloc, text.as_bytes())?;
     match walk(alloc, &classes) {
-        Ok(ending) => Ok(format!(in alloc; "{ending:?}")?),
+        Ok(walked) => {
+            let ending = walked.ending;
+            Ok(format!(in alloc; "{ending:?}")?)
+        }
         Err(_) => Err(Fail::from("no memory")),
     }
 }
