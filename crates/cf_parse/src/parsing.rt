@@ -28,8 +28,8 @@ pub fn check(alloc: Global, t: &Tokens, prelude: bool) -> Result<(), ParseEnd>
     let Ok(classes) = source.classes() else {
         return Err(ParseEnd::NoMemory);
     };
-    let Ok(ending) = walk(alloc, classes.as_slice()) else {
+    let Ok(walked) = walk(alloc, classes.as_slice()) else {
         return Err(ParseEnd::NoMemory);
     };
-    source.judged(ending, source.first_literal())
+    source.judged(walked.ending, source.first_literal())
 }
