@@ -2,7 +2,7 @@
 use Rattle.std.specs.Prelude.{ℕ, ◌+◌, ◌-◌, ◌<◌, List, [], ◌∷◌, ◌++◌, length, take, drop, reverse, ◌≡◌}
 use Rattle.std.proofs.Common.{append_assoc, get_or}
 use Rattle.std.proofs.lemmas.List.{append-nil}
-use mathlib.Core.Path.{refl, ap, sym, ◌∙◌, subst}
+use mathlib.Core.Path.{ap, sym, ◌∙◌, subst}
 use Rattle.cf_grammar.specs.Grammar.{start}
 use Rattle.cf_grammar.specs.Productions.{production, step_of, Follows}
 use Rattle.cf_grammar.specs.Productions

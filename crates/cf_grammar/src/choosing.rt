@@ -69,7 +69,7 @@ pub fn step(symbol: Symbol, class: Class) -> Step
     }
 }
 
-// Of a program.
+// The kind of right side of a program.
 fn of_program(class: Class) -> Production
     ensures { result ≡ production Program class }
 {
@@ -84,7 +84,7 @@ fn of_program(class: Class) -> Production
     }
 }
 
-// Of declarations.
+// The kind of right side of declarations.
 fn of_declarations(class: Class) -> Production
     ensures { result ≡ production (Decls false 0) class }
 {
@@ -95,7 +95,7 @@ fn of_declarations(class: Class) -> Production
     }
 }
 
-// Of a declaration.
+// The kind of right side of a declaration.
 fn of_declaration(class: Class) -> Production
     ensures { result ≡ production (Decl false 0) class }
 {
@@ -107,7 +107,7 @@ fn of_declaration(class: Class) -> Production
     }
 }
 
-// Of parameters.
+// The kind of right side of parameters.
 fn of_parameters(class: Class) -> Production
     ensures { result ≡ production (Params 0) class }
 {
@@ -117,7 +117,7 @@ fn of_parameters(class: Class) -> Production
     }
 }
 
-// Of a parameter.
+// The kind of right side of a parameter.
 fn of_parameter(class: Class) -> Production
     ensures { result ≡ production (Param 0) class }
 {
@@ -127,7 +127,7 @@ fn of_parameter(class: Class) -> Production
     }
 }
 
-// Of constructors.
+// The kind of right side of constructors.
 fn of_constructors(class: Class) -> Production
     ensures { result ≡ production (Ctors false 0) class }
 {
@@ -137,7 +137,7 @@ fn of_constructors(class: Class) -> Production
     }
 }
 
-// Of constructors behind the first.
+// The kind of right side of constructors behind the first.
 fn of_more_constructors(class: Class) -> Production
     ensures { result ≡ production (MoreCtors false 0) class }
 {
@@ -147,7 +147,7 @@ fn of_more_constructors(class: Class) -> Production
     }
 }
 
-// Of a constructor.
+// The kind of right side of a constructor.
 fn of_constructor(class: Class) -> Production
     ensures { result ≡ production (Ctor false 0) class }
 {
@@ -157,7 +157,7 @@ fn of_constructor(class: Class) -> Production
     }
 }
 
-// Of a field.
+// The kind of right side of a field.
 fn of_field(explicit: bool, class: Class) -> Production
     ensures { result ≡ production (Field explicit 0) class }
 {
@@ -168,7 +168,7 @@ fn of_field(explicit: bool, class: Class) -> Production
     }
 }
 
-// Of branches.
+// The kind of right side of branches.
 fn of_branches(class: Class) -> Production
     ensures { result ≡ production (Branches false 0) class }
 {
@@ -179,7 +179,7 @@ fn of_branches(class: Class) -> Production
     }
 }
 
-// Of branches behind the first.
+// The kind of right side of branches behind the first.
 fn of_more_branches(class: Class) -> Production
     ensures { result ≡ production (MoreBranches false 0) class }
 {
@@ -189,7 +189,7 @@ fn of_more_branches(class: Class) -> Production
     }
 }
 
-// Of a branch.
+// The kind of right side of a branch.
 fn of_branch(class: Class) -> Production
     ensures { result ≡ production (Branch false 0) class }
 {
@@ -200,7 +200,7 @@ fn of_branch(class: Class) -> Production
     }
 }
 
-// Of a name or `_`.
+// The kind of right side of a name or `_`.
 fn of_binder(class: Class) -> Production
     ensures { result ≡ production Binder class }
 {
@@ -211,7 +211,7 @@ fn of_binder(class: Class) -> Production
     }
 }
 
-// Of any number of names or `_`.
+// The kind of right side of any number of names or `_`.
 fn of_binders(class: Class) -> Production
     ensures { result ≡ production Binders class }
 {

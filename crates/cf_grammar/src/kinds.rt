@@ -10,7 +10,7 @@ use crate::classes::Class;
 use crate::productions::Production;
 use cf_lex::{Keyword, Mark};
 
-/// Of terms between commas, or of fields.
+/// The kind of right side of terms between commas, or of fields.
 pub fn of_terms(explicit: bool, class: Class) -> Production
     ensures { result ≡ production (Terms explicit 0) class }
 {
@@ -21,7 +21,7 @@ pub fn of_terms(explicit: bool, class: Class) -> Production
     }
 }
 
-/// Of terms or fields behind the first.
+/// The kind of right side of terms or fields behind the first.
 pub fn of_more_terms(class: Class) -> Production
     ensures { result ≡ production (MoreTerms false 0) class }
 {
@@ -31,7 +31,7 @@ pub fn of_more_terms(class: Class) -> Production
     }
 }
 
-/// Of a term.
+/// The kind of right side of a term.
 pub fn of_term(explicit: bool, class: Class) -> Production
     ensures { result ≡ production (Term explicit 0) class }
 {
@@ -44,7 +44,7 @@ pub fn of_term(explicit: bool, class: Class) -> Production
     }
 }
 
-// Of a term that begins with a keyword or a mark of its own.
+// The kind of right side of a term that begins with a keyword or a mark of its own.
 fn of_form(explicit: bool, class: Class) -> Production
     requires { is_chosen (for_form class) ≡ true }
     ensures { result ≡ production (Term explicit 0) class }
@@ -62,7 +62,7 @@ fn of_form(explicit: bool, class: Class) -> Production
     }
 }
 
-/// Of the binder of a lambda.
+/// The kind of right side of the binder of a lambda.
 pub fn of_lambda(explicit: bool, class: Class) -> Production
     ensures { result ≡ production (Lambda explicit 0) class }
 {
@@ -74,7 +74,7 @@ pub fn of_lambda(explicit: bool, class: Class) -> Production
     }
 }
 
-/// Of the binder of `fn`.
+/// The kind of right side of the binder of `fn`.
 pub fn of_fn(explicit: bool, class: Class) -> Production
     ensures { result ≡ production (Fn explicit 0) class }
 {
@@ -85,7 +85,7 @@ pub fn of_fn(explicit: bool, class: Class) -> Production
     }
 }
 
-/// Of the binder of `Pi`.
+/// The kind of right side of the binder of `Pi`.
 pub fn of_pi(explicit: bool, class: Class) -> Production
     ensures { result ≡ production (PiBinder explicit 0) class }
 {
@@ -96,7 +96,7 @@ pub fn of_pi(explicit: bool, class: Class) -> Production
     }
 }
 
-/// Of the type of a `case`.
+/// The kind of right side of the type of a `case`.
 pub fn of_case_type(class: Class) -> Production
     ensures { result ≡ production (CaseType false 0) class }
 {
@@ -106,7 +106,7 @@ pub fn of_case_type(class: Class) -> Production
     }
 }
 
-/// Of what an arrow leads to.
+/// The kind of right side of what an arrow leads to.
 pub fn of_arrow(class: Class) -> Production
     ensures { result ≡ production (Arrow false 0) class }
 {
@@ -117,7 +117,7 @@ pub fn of_arrow(class: Class) -> Production
     }
 }
 
-/// Of a chain of `@`.
+/// The kind of right side of a chain of `@`.
 pub fn of_chain(explicit: bool, class: Class) -> Production
     ensures { result ≡ production (Chain explicit 0) class }
 {
@@ -128,7 +128,7 @@ pub fn of_chain(explicit: bool, class: Class) -> Production
     }
 }
 
-/// Of operands of `@`.
+/// The kind of right side of operands of `@`.
 pub fn of_operands(class: Class) -> Production
     ensures { result ≡ production (Operands false 0 0) class }
 {
@@ -138,7 +138,7 @@ pub fn of_operands(class: Class) -> Production
     }
 }
 
-/// Of an operand.
+/// The kind of right side of an operand.
 pub fn of_operand(explicit: bool, class: Class) -> Production
     ensures { result ≡ production (Operand explicit 0 0) class }
 {
@@ -149,7 +149,7 @@ pub fn of_operand(explicit: bool, class: Class) -> Production
     }
 }
 
-/// Of an application.
+/// The kind of right side of an application.
 pub fn of_application(explicit: bool, class: Class) -> Production
     ensures { result ≡ production (App explicit 0) class }
 {
@@ -160,7 +160,7 @@ pub fn of_application(explicit: bool, class: Class) -> Production
     }
 }
 
-/// Of arguments.
+/// The kind of right side of arguments.
 pub fn of_arguments(explicit: bool, class: Class) -> Production
     ensures { result ≡ production (Args explicit 0 0) class }
 {
@@ -171,7 +171,7 @@ pub fn of_arguments(explicit: bool, class: Class) -> Production
     }
 }
 
-/// Of an argument.
+/// The kind of right side of an argument.
 pub fn of_argument(explicit: bool, class: Class) -> Production
     ensures { result ≡ production (Arg explicit 0 0) class }
 {
@@ -189,7 +189,7 @@ pub fn of_argument(explicit: bool, class: Class) -> Production
     }
 }
 
-/// Of the head of an application.
+/// The kind of right side of the head of an application.
 pub fn of_head(explicit: bool, class: Class) -> Production
     ensures { result ≡ production (Head explicit 0) class }
 {
@@ -202,7 +202,7 @@ pub fn of_head(explicit: bool, class: Class) -> Production
     }
 }
 
-// Of a head that begins with a keyword, by how many atoms it takes.
+// The kind of right side of a head that begins with a keyword, by how many atoms it takes.
 fn of_word(explicit: bool, word: Keyword) -> Production
     requires { is_chosen (for_constant word) ≡ false }
     ensures { result ≡ production (Head explicit 0) (Word word) }
@@ -219,7 +219,7 @@ fn of_word(explicit: bool, word: Keyword) -> Production
     }
 }
 
-/// Of an atom.
+/// The kind of right side of an atom.
 pub fn of_atom(explicit: bool, class: Class) -> Production
     ensures { result ≡ production (Atom explicit 0) class }
 {
@@ -240,7 +240,7 @@ pub fn of_atom(explicit: bool, class: Class) -> Production
     }
 }
 
-// Of an atom that begins with a keyword.
+// The kind of right side of an atom that begins with a keyword.
 fn of_constant(explicit: bool, word: Keyword) -> Production
     ensures { result ≡ production (Atom explicit 0) (Word word) }
 {
@@ -254,7 +254,7 @@ fn of_constant(explicit: bool, word: Keyword) -> Production
     }
 }
 
-/// Of an atom that begins with `~` or `^`.
+/// The kind of right side of an atom that begins with `~` or `^`.
 pub fn of_code(class: Class) -> Production
     ensures { result ≡ production (Code false 0) class }
 {
@@ -265,7 +265,7 @@ pub fn of_code(class: Class) -> Production
     }
 }
 
-/// Of the brackets behind a name.
+/// The kind of right side of the brackets behind a name.
 pub fn of_brackets(class: Class) -> Production
     ensures behind_name { result ≡ production (Brackets false 0) class }
     ensures behind_con { result ≡ production (ConBrackets false 0) class }
@@ -276,7 +276,7 @@ pub fn of_brackets(class: Class) -> Production
     }
 }
 
-/// Of the second component of a pair.
+/// The kind of right side of the second component of a pair.
 pub fn of_second(explicit: bool, class: Class) -> Production
     ensures { result ≡ production (Second explicit 0) class }
 {

@@ -1,11 +1,9 @@
-use Rattle.std.proofs.Common.{◌<◌, ◌≡◌, ◌∙◌, ◌∷◌, [], ap, arith, false, length, reverse}
+use Rattle.std.proofs.Common.{◌<◌, ◌∙◌, ◌∷◌, ap, arith, false, length, reverse}
 use Rattle.cf_grammar.specs.declared.phrases.Phrase.TheVariants.{Program}
-use Rattle.cf_grammar.specs.declared.phrases.Symbol.{Symbol}
 use Rattle.cf_grammar.specs.declared.phrases.Symbol.TheVariants.{Is as is, Phrase as a}
 use Rattle.cf_grammar.specs.declared.classes.Class.TheVariants as class
-use Rattle.cf_grammar.specs.declared.productions.Step.{Step}
 use Rattle.cf_grammar.specs.declared.turning.Turn.TheVariants as turn
-use Rattle.cf_grammar.proofs.Following.{Going, goes, followed, going_at}
+use Rattle.cf_grammar.proofs.Following.{goes, followed, going_at}
 use Rattle.cf_grammar.proofs.Standing.{begins_at}
 use Rattle.cf_grammar.proofs.Turns.{after, finished, fits, left}
 use Rattle.cf_grammar.proofs.walking.walk.Goals as goal
