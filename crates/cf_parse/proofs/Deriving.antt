@@ -48,6 +48,14 @@ get_side n k w e = by_cases (side n k) (ap (λ o. numbered (rules n) o) (sym e))
     by_cases [] q p = clash (sym p)
     by_cases (y ∷ r) q p = numbered_get (rules n) w y r q
 
+-- a right side that a token begins is not empty
+pub filled : (n : Phrase) (k : Class) (w : ℕ) → which n k ≡ Some w → (y : Symbol) × ((r : List Symbol) × (side n k ≡ y ∷ r))
+filled n k w e = by_cases (side n k) refl (begun (told n k) (ap is_chosen e))
+  where
+    by_cases : (r : List Symbol) → side n k ≡ r → fronts begins r k ≡ true → (y : Symbol) × ((r : List Symbol) × (side n k ≡ y ∷ r))
+    by_cases [] q p = clash (sym p)
+    by_cases (y ∷ r) q p = (y, (r, q))
+
 among_nullable : (rs : List (List Symbol)) → Among [] rs → nullable rs ≡ true
 among_nullable _ first = refl
 among_nullable _ (other {y = []} i) = refl

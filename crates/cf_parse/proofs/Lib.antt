@@ -1,10 +1,12 @@
-pub mod Choices
 pub mod Decimals
 pub mod Deriving
+pub mod Evaluating
 pub mod Judging
 pub mod Places
 pub mod Ranges
 pub mod Refusing
-pub mod Sides
+pub mod Making
+pub mod Only
+pub mod Fitting
 pub mod Steps
 pub mod Unique

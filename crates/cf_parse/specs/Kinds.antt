@@ -1,50 +1,20 @@
--- What is told of the next token.
-use Rattle.std.specs.Prelude.{ℕ, Bool, true, false, Option, Some, None, ◌≡◌}
+-- Kinds of meanings: what each right side asks of the meanings of its symbols, and what kind of meaning it gives.
+use Rattle.std.specs.Prelude.{ℕ, Bool, true, List, [], ◌∷◌, Option, Some, None, ◌≡◌}
+use Rattle.cf_base.specs.declared.at.At.{At}
 use Rattle.cf_lex.specs.declared.keywords.Keyword.{Keyword}
 use Rattle.cf_lex.specs.declared.keywords.Keyword.TheVariants as keyword
-use Rattle.cf_lex.specs.declared.marks.Mark.TheVariants as mark
-use Rattle.cf_grammar.specs.Choosing.{for_arg, for_atom, for_binder, for_decl, for_fn, for_head, for_lambda, for_pi, for_program}
 use Rattle.cf_grammar.specs.declared.classes.Class.{Class}
 use Rattle.cf_grammar.specs.declared.classes.Class.TheVariants as class
-use Rattle.cf_parse.specs.declared.kinds.ArrowForm.{ArrowForm}
-use Rattle.cf_parse.specs.declared.kinds.ArrowForm.TheVariants as arrow
-use Rattle.cf_parse.specs.declared.kinds.AtomForm.{AtomForm}
-use Rattle.cf_parse.specs.declared.kinds.AtomForm.TheVariants as atom
-use Rattle.cf_parse.specs.declared.kinds.DeclForm.{DeclForm}
-use Rattle.cf_parse.specs.declared.kinds.DeclForm.TheVariants as decl
-use Rattle.cf_parse.specs.declared.kinds.TermForm.{TermForm}
-use Rattle.cf_parse.specs.declared.kinds.TermForm.TheVariants as form
-use Rattle.cf_parse.specs.declared.kinds.HeadForm.{HeadForm}
-use Rattle.cf_parse.specs.declared.kinds.HeadForm.TheVariants as head
-use Rattle.cf_parse.specs.declared.kinds.BinderForm.{BinderForm}
-use Rattle.cf_parse.specs.declared.kinds.BinderForm.TheVariants as opening
-use Rattle.cf_parse.specs.declared.kinds.ProgramForm.{ProgramForm}
-use Rattle.cf_parse.specs.declared.kinds.ProgramForm.TheVariants as program
-
--- the number, where a test is met
-abbrev pub when : Bool → ℕ → Option ℕ
-when true n = Some n
-when false n = None
-
--- no other number than this one
-abbrev pub Only : Option ℕ → ℕ → Type 0
-Only o n = (v : ℕ) → o ≡ Some v → v ≡ n
-
-abbrev pub form_number : TermForm → Option ℕ
-form_number form.Lambda = Some 0
-form_number form.Function = Some 1
-form_number form.Let = Some 2
-form_number form.LetV = Some 3
-form_number form.LetRec = Some 4
-form_number form.Pi = Some 5
-form_number form.Sig = Some 6
-form_number form.Case = Some 7
-form_number form.Chain = None
-
-abbrev pub arrow_number : ArrowForm → Option ℕ
-arrow_number arrow.Nothing = None
-arrow_number arrow.Meta = Some 1
-arrow_number arrow.Object = Some 2
+use Rattle.cf_grammar.specs.declared.phrases.Phrase.{Phrase}
+use Rattle.cf_grammar.specs.declared.phrases.Phrase.TheVariants as phrase
+use Rattle.cf_grammar.specs.declared.phrases.Symbol.{Symbol}
+use Rattle.cf_grammar.specs.declared.phrases.Symbol.TheVariants.{Is as is, AnyName as NAME, Phrase as a}
+use Rattle.cf_grammar.specs.declared.productions.Production.{Production}
+use Rattle.cf_grammar.specs.declared.productions.Production.TheVariants as by
+use Rattle.cf_tree.specs.Tree as trees
+use Rattle.cf_parse.specs.Meaning.{Sem}
+use Rattle.cf_parse.specs.Meaning as meant
+use Rattle.cf_parse.specs.Reads.{in_range}
 
 -- how many atoms a word takes
 abbrev pub atoms_of : Keyword → Option ℕ
@@ -83,45 +53,201 @@ atoms_of keyword.NatRec = Some 4
 atoms_of keyword.ListRec = Some 4
 atoms_of y = None
 
-abbrev pub AtomTells : Class → AtomForm → Type 0
-AtomTells k atom.Name = (x : Bool) → for_atom x k ≡ Some 0
-AtomTells k atom.Whole = k ≡ class.Whole
-AtomTells k atom.NatLit = k ≡ class.NatLit
-AtomTells k atom.Con = k ≡ class.Word keyword.Con
-AtomTells k atom.Paren = k ≡ class.Mark mark.OpenParen
-AtomTells k atom.Quote = k ≡ class.Mark mark.Less
-AtomTells k atom.Splice = k ≡ class.Mark mark.Tilde
-AtomTells k atom.Lift = k ≡ class.Mark mark.Caret
-AtomTells k (atom.Constant y) = (k ≡ class.Word y) × (atoms_of y ≡ Some 0)
-AtomTells k atom.Hole = k ≡ class.Hole
-AtomTells k atom.Nothing = (x : Bool) → for_atom x k ≡ None
+-- what a meaning is: a name, a number, a word that takes n atoms, any token, or what a phrase means
+pub data Kind : Type 0 where
+  Token Name Whole NatLit Term Binder Domain Argument Onto Bracketed Arm Ctor Decl Program : Kind
+  Word : ℕ → Kind
+  Many Maybe : Kind → Kind
 
-abbrev pub HeadTells : Class → HeadForm → Type 0
-HeadTells k (head.One y) = (k ≡ class.Word y) × (atoms_of y ≡ Some 1)
-HeadTells k (head.Two y) = (k ≡ class.Word y) × (atoms_of y ≡ Some 2)
-HeadTells k (head.Three y) = (k ≡ class.Word y) × (atoms_of y ≡ Some 3)
-HeadTells k (head.Four y) = (k ≡ class.Word y) × (atoms_of y ≡ Some 4)
-HeadTells k head.Atom = (x : Bool) → Only (for_head x k) 0
+-- a meaning of a kind
+pub data Fits : Kind → Sem → Type 0 where
+  a_token : {p : At} {k : Class} {x : trees.Name} → Fits Token (meant.token p k x)
+  a_name : {p : At} {b : Bool} {x : trees.Name} → Fits Name (meant.token p (class.Name b) x)
+  a_whole : {p : At} {x : trees.Name} → in_range class.Whole x ≡ true → Fits Whole (meant.token p class.Whole x)
+  a_natlit : {p : At} {x : trees.Name} → in_range class.NatLit x ≡ true → Fits NatLit (meant.token p class.NatLit x)
+  a_word : {n : ℕ} {p : At} {y : Keyword} {x : trees.Name} → atoms_of y ≡ Some n → Fits (Word n) (meant.token p (class.Word y) x)
+  a_term : {t : trees.Tree} → Fits Term (meant.term t)
+  a_binder : {b : trees.Binder} → Fits Binder (meant.binder b)
+  a_domain : {i : Bool} {b : trees.Binder} {t : Option trees.Tree} → Fits Domain (meant.domain i b t)
+  an_argument : {i : Bool} {t : trees.Tree} → Fits Argument (meant.argument i t)
+  an_onto : {o : Bool} {t : trees.Tree} → Fits Onto (meant.onto o t)
+  brackets : {ts : List trees.Tree} → Fits Bracketed (meant.bracketed ts)
+  an_arm : {c : trees.Named} {bs : List trees.Binder} {t : trees.Tree} → Fits Arm (meant.arm c bs t)
+  a_ctor : {c : trees.CtorTree} → Fits Ctor (meant.ctor c)
+  a_decl : {d : trees.DeclTree} → Fits Decl (meant.decl d)
+  a_program : {p : trees.Program} → Fits Program (meant.program p)
+  none : {j : Kind} → Fits (Many j) meant.nothing
+  more : {j : Kind} {x xs : Sem} → Fits j x → Fits (Many j) xs → Fits (Many j) (meant.also x xs)
+  left_out : {j : Kind} → Fits (Maybe j) meant.nothing
+  given : {j : Kind} {x : Sem} → Fits j x → Fits (Maybe j) x
 
-abbrev pub OpeningTells : Class → BinderForm → Type 0
-OpeningTells k opening.Paren = k ≡ class.Mark mark.OpenParen
-OpeningTells k opening.Brace = k ≡ class.Mark mark.OpenBrace
-OpeningTells k opening.Bare = (x : Bool) → Only (for_lambda x k) 2 × Only (for_fn x k) 1 × (for_pi x k ≡ None)
+-- meanings of these kinds, and maybe others behind them
+pub data AllFit : List Kind → List Sem → Type 0 where
+  end : {vs : List Sem} → AllFit [] vs
+  next : {j : Kind} {js : List Kind} {v : Sem} {vs : List Sem} → Fits j v → AllFit js vs → AllFit (j ∷ js) (v ∷ vs)
 
-abbrev pub DeclTells : Class → DeclForm → Type 0
-DeclTells k decl.Data = k ≡ class.Word keyword.Data
-DeclTells k decl.Meta = k ≡ class.Word keyword.Meta
-DeclTells k decl.Object = Only (for_decl k) 2
+-- the kind of a phrase
+abbrev pub kind_of : Phrase → Kind
+kind_of phrase.Program = Maybe Program
+kind_of (phrase.Decls x k) = Many Decl
+kind_of (phrase.Decl x k) = Decl
+kind_of (phrase.Params k) = Many Name
+kind_of (phrase.Param k) = Name
+kind_of (phrase.Ctors x k) = Many Ctor
+kind_of (phrase.MoreCtors x k) = Many Ctor
+kind_of (phrase.Ctor x k) = Ctor
+kind_of (phrase.Fields x k) = Many Term
+kind_of (phrase.MoreFields x k) = Many Term
+kind_of (phrase.Field x k) = Term
+kind_of (phrase.Terms x d) = Many Term
+kind_of (phrase.MoreTerms x d) = Many Term
+kind_of (phrase.Term x d) = Term
+kind_of (phrase.Lambda x d) = Domain
+kind_of (phrase.Fn x d) = Domain
+kind_of (phrase.PiBinder x d) = Domain
+kind_of (phrase.CaseType x d) = Maybe Term
+kind_of (phrase.Branches x d) = Many Arm
+kind_of (phrase.MoreBranches x d) = Many Arm
+kind_of (phrase.Branch x d) = Arm
+kind_of (phrase.Arrow x d) = Maybe Onto
+kind_of (phrase.Chain x d) = Term
+kind_of (phrase.Operands x d k) = Many Term
+kind_of (phrase.Operand x d k) = Term
+kind_of (phrase.App x d) = Term
+kind_of (phrase.Args x d k) = Many Argument
+kind_of (phrase.Arg x d k) = Argument
+kind_of (phrase.Head x d) = Term
+kind_of (phrase.Atom x d) = Term
+kind_of (phrase.Code x d) = Term
+kind_of (phrase.Brackets x d) = Maybe Bracketed
+kind_of (phrase.ConBrackets x d) = Maybe Bracketed
+kind_of (phrase.Second x d) = Maybe Term
+kind_of phrase.Binder = Binder
+kind_of phrase.Binders = Many Binder
 
-abbrev pub ProgramTells : Class → ProgramForm → Type 0
-ProgramTells k program.Explicit = k ≡ class.Word keyword.Explicit
-ProgramTells k program.Prelude = k ≡ class.Word keyword.Use
-ProgramTells k program.Plain = Only (for_program k) 2
+-- the kind of a word, by how many atoms it takes
+abbrev pub of_atoms : Option ℕ → Kind
+of_atoms (Some n) = Word n
+of_atoms None = Token
 
-abbrev pub ArgumentTells : Class → (braced : Bool) → Type 0
-ArgumentTells k true = k ≡ class.Mark mark.OpenBrace
-ArgumentTells k false = (x : Bool) → Only (for_arg x k) 0
+-- the kind of a symbol
+abbrev pub of_symbol : Symbol → Kind
+of_symbol (a n) = kind_of n
+of_symbol NAME = Name
+of_symbol (is (class.Word y)) = of_atoms (atoms_of y)
+of_symbol (is (class.Name p)) = Name
+of_symbol (is class.Whole) = Whole
+of_symbol (is class.NatLit) = NatLit
+of_symbol (is class.Hole) = Token
+of_symbol (is (class.Mark z)) = Token
+of_symbol (is class.End) = Token
 
-abbrev pub BinderTells : Class → (named : Bool) → Type 0
-BinderTells k true = for_binder k ≡ Some 0
-BinderTells k false = Only (for_binder k) 1
+-- the kinds of the symbols of a right side
+abbrev pub params : Production → List Kind
+params by.Empty = []
+params by.Explicit = Token ∷ Token ∷ Many Decl ∷ []
+params by.Prelude = Token ∷ Token ∷ Token ∷ Many Decl ∷ []
+params by.Plain = Decl ∷ Many Decl ∷ []
+params by.FirstDecl = Decl ∷ Many Decl ∷ []
+params by.Data = Token ∷ Name ∷ Many Name ∷ Token ∷ Many Ctor ∷ Token ∷ []
+params by.Meta = Token ∷ Name ∷ Token ∷ Term ∷ Token ∷ Term ∷ Token ∷ []
+params by.Object = Name ∷ Token ∷ Term ∷ Token ∷ Term ∷ Token ∷ []
+params by.FirstParam = Name ∷ Many Name ∷ []
+params by.Param = Token ∷ Name ∷ Token ∷ Word 0 ∷ Token ∷ []
+params by.FirstCtor = Ctor ∷ Many Ctor ∷ []
+params by.NextCtor = Token ∷ Ctor ∷ Many Ctor ∷ []
+params by.Ctor = Name ∷ Token ∷ Many Term ∷ Token ∷ []
+params by.FirstTerm = Term ∷ Many Term ∷ []
+params by.NextTerm = Token ∷ Term ∷ Many Term ∷ []
+params by.Same = Term ∷ []
+params by.Behind = Token ∷ Term ∷ []
+params by.Lambda = Token ∷ Domain ∷ Token ∷ Term ∷ []
+params by.Function = Token ∷ Domain ∷ Token ∷ Term ∷ []
+params by.Let = Token ∷ Binder ∷ Token ∷ Term ∷ Token ∷ Term ∷ Token ∷ Term ∷ []
+params by.LetV = Token ∷ Binder ∷ Token ∷ Term ∷ Token ∷ Term ∷ Token ∷ Term ∷ []
+params by.LetRec = Token ∷ Binder ∷ Token ∷ Term ∷ Token ∷ Term ∷ Token ∷ Term ∷ []
+params by.Pi = Token ∷ Domain ∷ Token ∷ Term ∷ []
+params by.Sig = Token ∷ Token ∷ Binder ∷ Token ∷ Term ∷ Token ∷ Token ∷ Term ∷ []
+params by.Case = Token ∷ Term ∷ Maybe Term ∷ Token ∷ Token ∷ Many Arm ∷ Token ∷ []
+params by.Arrow = Term ∷ Maybe Onto ∷ []
+params by.TypedBinder = Token ∷ Binder ∷ Token ∷ Term ∷ Token ∷ []
+params by.ImplicitBinder = Token ∷ Binder ∷ Token ∷ Term ∷ Token ∷ []
+params by.UntypedBinder = Binder ∷ []
+params by.FirstBranch = Arm ∷ Many Arm ∷ []
+params by.NextBranch = Token ∷ Arm ∷ Many Arm ∷ []
+params by.Branch = Name ∷ Many Binder ∷ Token ∷ Term ∷ []
+params by.OntoMeta = Token ∷ Term ∷ []
+params by.OntoObject = Token ∷ Term ∷ []
+params by.Chain = Term ∷ Many Term ∷ []
+params by.Application = Term ∷ Many Argument ∷ []
+params by.FirstArgument = Argument ∷ Many Argument ∷ []
+params by.ExplicitArgument = Term ∷ []
+params by.ImplicitArgument = Token ∷ Term ∷ Token ∷ []
+params by.Constant = Word 0 ∷ []
+params by.OneAtom = Word 1 ∷ Term ∷ []
+params by.TwoAtoms = Word 2 ∷ Term ∷ Term ∷ []
+params by.ThreeAtoms = Word 3 ∷ Term ∷ Term ∷ Term ∷ []
+params by.FourAtoms = Word 4 ∷ Term ∷ Term ∷ Term ∷ Term ∷ []
+params by.Variable = Name ∷ Maybe Bracketed ∷ []
+params by.Literal = Whole ∷ []
+params by.Numeral = NatLit ∷ []
+params by.Construction = Token ∷ Name ∷ Maybe Bracketed ∷ Token ∷ Many Term ∷ Token ∷ []
+params by.Enclosed = Token ∷ Term ∷ Maybe Term ∷ Token ∷ []
+params by.Quote = Token ∷ Term ∷ Token ∷ []
+params by.Splice = Token ∷ Term ∷ []
+params by.Lift = Token ∷ Term ∷ []
+params by.Hole = Token ∷ []
+params by.Brackets = Token ∷ Many Term ∷ Token ∷ []
+params by.Named = Name ∷ []
+params by.Unnamed = Token ∷ []
+params by.FirstBinder = Binder ∷ Many Binder ∷ []
+
+-- a kind of which nothing is a meaning
+abbrev pub IsOptional : Kind → Type 0
+IsOptional (Many j) = Unit {0}
+IsOptional (Maybe j) = Unit {0}
+IsOptional j = ⊥
+
+-- a right side gives a meaning of this kind
+abbrev pub Gives : Production → Kind → Type 0
+Gives by.Empty j = IsOptional j
+Gives by.Explicit j = j ≡ Maybe Program
+Gives by.Prelude j = j ≡ Maybe Program
+Gives by.Plain j = j ≡ Maybe Program
+Gives by.FirstDecl j = j ≡ Many Decl
+Gives by.Data j = j ≡ Decl
+Gives by.Meta j = j ≡ Decl
+Gives by.Object j = j ≡ Decl
+Gives by.FirstParam j = j ≡ Many Name
+Gives by.Param j = j ≡ Name
+Gives by.FirstCtor j = j ≡ Many Ctor
+Gives by.NextCtor j = j ≡ Many Ctor
+Gives by.Ctor j = j ≡ Ctor
+Gives by.FirstTerm j = j ≡ Many Term
+Gives by.NextTerm j = j ≡ Many Term
+Gives by.Behind j = j ≡ Maybe Term
+Gives by.TypedBinder j = j ≡ Domain
+Gives by.ImplicitBinder j = j ≡ Domain
+Gives by.UntypedBinder j = j ≡ Domain
+Gives by.FirstBranch j = j ≡ Many Arm
+Gives by.NextBranch j = j ≡ Many Arm
+Gives by.Branch j = j ≡ Arm
+Gives by.OntoMeta j = j ≡ Maybe Onto
+Gives by.OntoObject j = j ≡ Maybe Onto
+Gives by.FirstArgument j = j ≡ Many Argument
+Gives by.ExplicitArgument j = j ≡ Argument
+Gives by.ImplicitArgument j = j ≡ Argument
+Gives by.Brackets j = j ≡ Maybe Bracketed
+Gives by.Named j = j ≡ Binder
+Gives by.Unnamed j = j ≡ Binder
+Gives by.FirstBinder j = j ≡ Many Binder
+Gives p j = j ≡ Term
+
+-- a kind of tokens
+abbrev pub IsToken : Kind → Type 0
+IsToken Token = Unit {0}
+IsToken Name = Unit {0}
+IsToken Whole = Unit {0}
+IsToken NatLit = Unit {0}
+IsToken (Word n) = Unit {0}
+IsToken j = ⊥

@@ -8,5 +8,7 @@ pub mod Laws
 pub mod Standing
 pub mod Steps
 pub mod Kinds
+pub mod Evaluation
+pub mod Values
 pub mod Built
 pub mod Checks

@@ -41,29 +41,6 @@ mutual
     none : {ks : List Token} → StandAll b [] ks [] ks
     both : {y : Symbol} {ys : List Symbol} {v : Sem} {vs : List Sem} {ks ls rest : List Token} → Stands b y ks v ls → StandAll b ys ls vs rest → StandAll b (y ∷ ys) ks (v ∷ vs) rest
 
--- where a phrase of this family stands at the tokens, f makes x of its meaning, and ls are left
-pub record Folds {I A : Type 0} (F : I → Phrase) (b : Bool) (ks : List Token) (f : Sem → A) (x : A) (ls : List Token) : Type 0 where
-  pub made : (i : I) (v : Sem) (m : List Token) → Stands b (a (F i)) ks v m → (f v ≡ x) × (m ≡ ls)
-
--- it means s
-abbrev pub Means : {I : Type 0} → (I → Phrase) → Bool → List Token → Sem → List Token → Type 0
-Means F b ks s ls = Folds F b ks (λ v. v) s ls
-
--- where these symbols stand at the tokens, f makes s of their meanings, and ls are left
-pub record Ends {I : Type 0} (r : I → List Symbol) (b : Bool) (ks : List Token) (f : List Sem → Sem) (s : Sem) (ls : List Token) : Type 0 where
-  pub made : (i : I) (vs : List Sem) (m : List Token) → StandAll b (r i) ks vs m → (f vs ≡ s) × (m ≡ ls)
-
--- a phrase that stands at a place, that f makes x of, and that ends at m
-pub record Found {J A : Type 0} (G : J → Phrase) (b : Bool) (ls : List Token) (g : Sem → A) (x : A) (m : List Token) : Type 0 where
-  pub index : J
-  pub sem : Sem
-  pub stands : Stands b (a (G index)) ls sem m
-  pub same : x ≡ g sem
-
--- where a phrase of the family F stands at ks, one of the family G stands at ls and ends as it does, and what f makes of the one is what g makes of the other
-pub record Goes {I J A : Type 0} (F : I → Phrase) (b : Bool) (ks : List Token) (f : Sem → A) (G : J → Phrase) (ls : List Token) (g : Sem → A) : Type 0 where
-  pub on : (i : I) (v : Sem) (m : List Token) → Stands b (a (F i)) ks v m → Found G b ls g (f v) m
-
 -- the place of the first of these tokens
 abbrev pub IsPlace : Bool → List Token → At → Type 0
 IsPlace b ks p = (k : Token) (ls : List Token) → ks ≡ k ∷ ls → p ≡ place b k.at

@@ -3,7 +3,6 @@
 
 mod checking;
 mod ends;
-mod kinds;
 mod laws;
 mod numbers;
 mod parsing;
@@ -11,6 +10,7 @@ mod parts;
 mod source;
 #[cfg(test)]
 mod tests;
+mod values;
 mod words;
 
 pub use cf_base::Limit;

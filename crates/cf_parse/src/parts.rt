@@ -47,3 +47,11 @@ pub(crate) fn or_missing(at: At, ty: Option<Tree>) -> Tree
         None => missing(at),
     }
 }
+
+// A place that is looked at by nobody.
+pub(crate) fn nowhere() -> At {
+    At {
+        prelude: false,
+        offset: 0,
+    }
+}
