@@ -16,7 +16,8 @@ use Rattle.cf_grammar.specs.declared.productions.Step.{Step}
 use Rattle.cf_grammar.specs.declared.productions.Step.TheVariants as step
 use Rattle.cf_parse.proofs.Deriving.{filled, get_side}
 use Rattle.cf_parse.proofs.Fitting.{Right, acted, acting, mapped_there, matched, nothing_fits, numbered_there, optional, right}
-use Rattle.cf_parse.proofs.Steps.{clash, ended, no_phrase, none_some, opened as opened_there, Opened, by_empty, by_side, parted, some_inj}
+use Rattle.cf_parse.proofs.Steps.{clash, ended, no_phrase, none_some, opened as opened_there, Opened, by_empty, by_side, Parted, parted, some_inj}
+use Rattle.cf_parse.specs.Building.{Sound}
 use Rattle.cf_parse.specs.Evaluation.{action, arity, evaluated, first_token, firsts, reduced, next_at}
 use Rattle.cf_parse.specs.Kinds as kind
 use Rattle.cf_parse.specs.Kinds.{Kind, Fits, AllFit, end, next, Gives, a_token, a_name, a_whole, a_natlit, a_word, atoms_of, kind_of, of_atoms, of_symbol, params}
@@ -95,12 +96,6 @@ stand_append : {b : Bool} {r ys : List Symbol} {ks ls m : List Token} {us vs : L
 stand_append none h = h
 stand_append (both g k) h = both g (stand_append k h)
 
--- each step of a derivation has meanings of the kinds that it asks for
-pub data Sound (b : Bool) : List Step → List Token → Type 0 where
-  finished : Sound b [] []
-  taken : {k : Token} {ps : List Step} {ks : List Token} → Sound b ps ks → Sound b (step.Take ∷ ps) (k ∷ ks)
-  built : {p : Production} {ps : List Step} {k : Token} {ks : List Token} → AllFit (params p) (evaluated b ps (k ∷ ks)) → Sound b ps (k ∷ ks) → Sound b (step.Open p ∷ ps) (k ∷ ks)
-
 pub record Outcome (b : Bool) (ys : List Symbol) (ps : List Step) (ks : List Token) (vs : List Sem) : Type 0 where
   pub are : evaluated b ps ks ≡ vs
   pub fit : AllFit (map of_symbol ys) vs
@@ -131,28 +126,31 @@ outcome {b = b} {vs = vs} (k ∷ ks) (take {y = y} {k = c} {ys = ys} {ps = ps} t
       fit = subst (AllFit (of_symbol y ∷ map of_symbol ys)) (sym o.are) (next (subst (Fits (of_symbol y)) (sym d.0) (token_fits y k.class (place b k.at) k.text d.1.1.0 d.1.1.1)) i.fit);
       sound = Sound.taken i.sound;
     }
-outcome {b = b} {vs = vs} (k ∷ ks) (opened {n = n} {k = c} {ys = ys} {ps = ps} {ks = cs} f) e s = by_cases (opened_there o.first)
+outcome {b = b} {vs = vs} (k ∷ ks) (opened {n = n} {k = c} {ys = ys} {ps = ps} {ks = cs} f) e s = by_cases (λ ws h. outcome (k ∷ ks) f e h) (opened_there o.first)
   where
+    o : Parted b (a n) ys (k ∷ ks) vs []
     o = parted s
+
     c_is : k.class ≡ c
     c_is = ap (class_or c) e
-    by_cases : Opened b n (k ∷ ks) o.v o.l → Outcome b (a n ∷ ys) (step.Open (production n c) ∷ ps) (k ∷ ks) vs
-    by_cases (by_empty t q g h) =
+
+    by_cases : ((ws : List Sem) → StandAll b (side n c ++ ys) (k ∷ ks) ws [] → Outcome b (side n c ++ ys) ps (k ∷ ks) ws) → Opened b n (k ∷ ks) o.v o.l → Outcome b (a n ∷ ys) (step.Open (production n c) ∷ ps) (k ∷ ks) vs
+    by_cases go (by_empty t q g h) =
         let t' : which n c ≡ None = ap (which n) (sym c_is) ∙ t in
         let side_is : side n c ≡ [] = ap (numbered (rules n)) t' in
         let is_empty : production n c ≡ by.Empty = ap (at_number (productions n)) t' in
-        let i = outcome (k ∷ ks) (subst (λ r. Follows (r ++ ys) ps (c ∷ cs)) side_is f) e (subst (λ l. StandAll b ys l o.us []) h o.others) in
+        let i = subst (λ r. Outcome b (r ++ ys) ps (k ∷ ks) o.us) side_is (go o.us (subst (λ r. StandAll b (r ++ ys) (k ∷ ks) o.us []) (sym side_is) (subst (λ l. StandAll b ys l o.us []) h o.others))) in
         subst (λ p. Outcome b (a n ∷ ys) (step.Open p ∷ ps) (k ∷ ks) vs) (sym is_empty) (record {
           are = (λ z. sym g z ∷ i.are z) ∙ sym o.are;
           fit = subst (AllFit (kind_of n ∷ map of_symbol ys)) (sym o.are) (next (subst (Fits (kind_of n)) (sym g) (nothing_fits (kind_of n) (optional n q))) i.fit);
           sound = Sound.built end i.sound;
         })
-    by_cases (by_side w r us j ls q t h g m) =
+    by_cases go (by_side w r us j ls q t h g m) =
         let t' : which n c ≡ Some w = ap (which n) (sym c_is) ∙ t in
         let r_is : side n c ≡ r = some_inj (sym (get_side n c w t') ∙ h) in
         let way = right (rules n) (productions n) (kind_of n) (matched n) w r h in
         let p_is : production n c ≡ way.by = ap (at_number (productions n)) t' ∙ numbered_there (productions n) w way.by way.there in
-        let i = outcome (k ∷ ks) (subst (λ r. Follows (r ++ ys) ps (c ∷ cs)) r_is f) e (stand_append g o.others) in
+        let i = subst (λ r. Outcome b (r ++ ys) ps (k ∷ ks) (us ++ o.us)) r_is (go (us ++ o.us) (subst (λ r. StandAll b (r ++ ys) (k ∷ ks) (us ++ o.us) []) (sym r_is) (stand_append g o.others))) in
         let count : length us ≡ arity way.by = stand_length g ∙ sym (map_length r) ∙ ap length way.asks in
         let fit' : AllFit (params way.by ++ map of_symbol ys) (us ++ o.us) = subst (λ js. AllFit js (us ++ o.us)) (map_append r ys ∙ ap (λ js. js ++ map of_symbol ys) way.asks) i.fit in
         let at = place b k.at in

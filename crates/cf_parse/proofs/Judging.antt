@@ -309,9 +309,6 @@ whole b ks d e h = ended (grow ks 0 grammar.none refl d e refl h).grow
         let p = is_program b g in
         record { cst = c; last = k; grows = g; ends = ends_here t; program = p.0; reads = record { unlimited = record { cst = c; end_token = k; parses = parses g; ends = ends_here t; means = p.1 }; limits = limits g } }
 
-pub fine_answer : (b : Bool) (l : TokenList) (r : ℕ) → Says (classes (tokens_of l)) ending.Fine → length l.tokens ≤ r → FirstBad (tokens_of l) r → (p : trees.Program) × Reads b l p
-fine_answer b l r s h f = let w = whole b (tokens_of l) s.0 s.1 (none_bad l r f h) in (w.program, w.reads)
-
 -- one token more
 pub range_more : (ks : List Token) (at : ℕ) → at < length ks → list_all token_in_range (take at ks) ≡ true → ((k : Token) (ls : List Token) → drop at ks ≡ k ∷ ls → token_in_range k ≡ true) → list_all token_in_range (take (at + 1) ks) ≡ true
 range_more ks at h e q = let n : at + 1 ≡ suc at = omega arith in rw n (more ks at h e q)

@@ -1,9 +1,11 @@
 pub mod Decimals
+pub mod Stages
 pub mod Deriving
 pub mod Evaluating
 pub mod Judging
 pub mod Places
 pub mod Ranges
+pub mod Reading
 pub mod Refusing
 pub mod Making
 pub mod Only

@@ -238,11 +238,11 @@ tokens_only s (value.Ctors c cs) (more e m) = elim e [ ]
 tokens_only s (value.Decls d ds) (more e m) = elim e [ ]
 
 pub tokens_none : (s : Source) (v : Value) → Fits (kind.Many kind.Name) (sem s v) → ((n : ℕ) (ns : Vec ℕ Global) → v ≡ value.Tokens n ns → ⊥) → sem s v ≡ meant.nothing
-tokens_none s v h n = by_cases v (tokens_only s v h) n
+tokens_none s v h never = by_cases v (tokens_only s v h) never
   where
     by_cases : (v : Value) → TokensIs v → ((n : ℕ) (ns : Vec ℕ Global) → v ≡ value.Tokens n ns → ⊥) → sem s v ≡ meant.nothing
-    by_cases _ TokensIs.nothing n = refl
-    by_cases _ (TokensIs.some n ns) n = absurd (n n ns refl)
+    by_cases _ TokensIs.nothing never = refl
+    by_cases _ (TokensIs.some n ns) never = absurd (never n ns refl)
 
 -- nothing, or a list of this kind
 pub data TermsIs : Value → Type 0 where
@@ -271,11 +271,11 @@ terms_only s (value.Ctors c cs) (more e m) = elim e [ ]
 terms_only s (value.Decls d ds) (more e m) = elim e [ ]
 
 pub terms_none : (s : Source) (v : Value) → Fits (kind.Many kind.Term) (sem s v) → ((t : Tree) (ts : Vec Tree Global) → v ≡ value.Terms t ts → ⊥) → sem s v ≡ meant.nothing
-terms_none s v h n = by_cases v (terms_only s v h) n
+terms_none s v h never = by_cases v (terms_only s v h) never
   where
     by_cases : (v : Value) → TermsIs v → ((t : Tree) (ts : Vec Tree Global) → v ≡ value.Terms t ts → ⊥) → sem s v ≡ meant.nothing
-    by_cases _ TermsIs.nothing n = refl
-    by_cases _ (TermsIs.some t ts) n = absurd (n t ts refl)
+    by_cases _ TermsIs.nothing never = refl
+    by_cases _ (TermsIs.some t ts) never = absurd (never t ts refl)
 
 -- nothing, or a list of this kind
 pub data BindersIs : Value → Type 0 where
@@ -304,11 +304,11 @@ binders_only s (value.Ctors c cs) (more e m) = elim e [ ]
 binders_only s (value.Decls d ds) (more e m) = elim e [ ]
 
 pub binders_none : (s : Source) (v : Value) → Fits (kind.Many kind.Binder) (sem s v) → ((b : Option Text) (bs : Vec (Option Text) Global) → v ≡ value.Binders b bs → ⊥) → sem s v ≡ meant.nothing
-binders_none s v h n = by_cases v (binders_only s v h) n
+binders_none s v h never = by_cases v (binders_only s v h) never
   where
     by_cases : (v : Value) → BindersIs v → ((b : Option Text) (bs : Vec (Option Text) Global) → v ≡ value.Binders b bs → ⊥) → sem s v ≡ meant.nothing
-    by_cases _ BindersIs.nothing n = refl
-    by_cases _ (BindersIs.some b bs) n = absurd (n b bs refl)
+    by_cases _ BindersIs.nothing never = refl
+    by_cases _ (BindersIs.some b bs) never = absurd (never b bs refl)
 
 -- nothing, or a list of this kind
 pub data ArgumentsIs : Value → Type 0 where
@@ -337,11 +337,11 @@ arguments_only s (value.Ctors c cs) (more e m) = elim e [ ]
 arguments_only s (value.Decls d ds) (more e m) = elim e [ ]
 
 pub arguments_none : (s : Source) (v : Value) → Fits (kind.Many kind.Argument) (sem s v) → ((u : Argument) (us : Vec Argument Global) → v ≡ value.Arguments u us → ⊥) → sem s v ≡ meant.nothing
-arguments_none s v h n = by_cases v (arguments_only s v h) n
+arguments_none s v h never = by_cases v (arguments_only s v h) never
   where
     by_cases : (v : Value) → ArgumentsIs v → ((u : Argument) (us : Vec Argument Global) → v ≡ value.Arguments u us → ⊥) → sem s v ≡ meant.nothing
-    by_cases _ ArgumentsIs.nothing n = refl
-    by_cases _ (ArgumentsIs.some u us) n = absurd (n u us refl)
+    by_cases _ ArgumentsIs.nothing never = refl
+    by_cases _ (ArgumentsIs.some u us) never = absurd (never u us refl)
 
 -- nothing, or a list of this kind
 pub data ArmsIs : Value → Type 0 where
@@ -370,11 +370,11 @@ arms_only s (value.Ctors c cs) (more e m) = elim e [ ]
 arms_only s (value.Decls d ds) (more e m) = elim e [ ]
 
 pub arms_none : (s : Source) (v : Value) → Fits (kind.Many kind.Arm) (sem s v) → ((b : Branch) (bs : Vec Branch Global) → v ≡ value.Arms b bs → ⊥) → sem s v ≡ meant.nothing
-arms_none s v h n = by_cases v (arms_only s v h) n
+arms_none s v h never = by_cases v (arms_only s v h) never
   where
     by_cases : (v : Value) → ArmsIs v → ((b : Branch) (bs : Vec Branch Global) → v ≡ value.Arms b bs → ⊥) → sem s v ≡ meant.nothing
-    by_cases _ ArmsIs.nothing n = refl
-    by_cases _ (ArmsIs.some b bs) n = absurd (n b bs refl)
+    by_cases _ ArmsIs.nothing never = refl
+    by_cases _ (ArmsIs.some b bs) never = absurd (never b bs refl)
 
 -- nothing, or a list of this kind
 pub data CtorsIs : Value → Type 0 where
@@ -403,11 +403,11 @@ ctors_only s (value.Ctors c cs) h = CtorsIs.some c cs
 ctors_only s (value.Decls d ds) (more e m) = elim e [ ]
 
 pub ctors_none : (s : Source) (v : Value) → Fits (kind.Many kind.Ctor) (sem s v) → ((c : ctors.CtorTree) (cs : Vec (ctors.CtorTree) Global) → v ≡ value.Ctors c cs → ⊥) → sem s v ≡ meant.nothing
-ctors_none s v h n = by_cases v (ctors_only s v h) n
+ctors_none s v h never = by_cases v (ctors_only s v h) never
   where
     by_cases : (v : Value) → CtorsIs v → ((c : ctors.CtorTree) (cs : Vec (ctors.CtorTree) Global) → v ≡ value.Ctors c cs → ⊥) → sem s v ≡ meant.nothing
-    by_cases _ CtorsIs.nothing n = refl
-    by_cases _ (CtorsIs.some c cs) n = absurd (n c cs refl)
+    by_cases _ CtorsIs.nothing never = refl
+    by_cases _ (CtorsIs.some c cs) never = absurd (never c cs refl)
 
 -- nothing, or a list of this kind
 pub data DeclsIs : Value → Type 0 where
@@ -436,11 +436,11 @@ decls_only s (value.Ctors c cs) (more e m) = elim e [ ]
 decls_only s (value.Decls d ds) h = DeclsIs.some d ds
 
 pub decls_none : (s : Source) (v : Value) → Fits (kind.Many kind.Decl) (sem s v) → ((d : Decl) (ds : Vec Decl Global) → v ≡ value.Decls d ds → ⊥) → sem s v ≡ meant.nothing
-decls_none s v h n = by_cases v (decls_only s v h) n
+decls_none s v h never = by_cases v (decls_only s v h) never
   where
     by_cases : (v : Value) → DeclsIs v → ((d : Decl) (ds : Vec Decl Global) → v ≡ value.Decls d ds → ⊥) → sem s v ≡ meant.nothing
-    by_cases _ DeclsIs.nothing n = refl
-    by_cases _ (DeclsIs.some d ds) n = absurd (n d ds refl)
+    by_cases _ DeclsIs.nothing never = refl
+    by_cases _ (DeclsIs.some d ds) never = absurd (never d ds refl)
 
 -- nothing, or a value of this kind
 pub data TermOrNot : Value → Type 0 where
@@ -469,11 +469,11 @@ term_or_not s (value.Ctors c cs) (given e) = elim e [ ]
 term_or_not s (value.Decls d ds) (given e) = elim e [ ]
 
 pub term_or_not_none : (s : Source) (v : Value) → Fits (kind.Maybe kind.Term) (sem s v) → ((t : Tree) → v ≡ value.Term t → ⊥) → sem s v ≡ meant.nothing
-term_or_not_none s v h n = by_cases v (term_or_not s v h) n
+term_or_not_none s v h never = by_cases v (term_or_not s v h) never
   where
     by_cases : (v : Value) → TermOrNot v → ((t : Tree) → v ≡ value.Term t → ⊥) → sem s v ≡ meant.nothing
-    by_cases _ TermOrNot.nothing n = refl
-    by_cases _ (TermOrNot.some t) n = absurd (n t refl)
+    by_cases _ TermOrNot.nothing never = refl
+    by_cases _ (TermOrNot.some t) never = absurd (never t refl)
 
 -- nothing, or a value of this kind
 pub data OntoOrNot : Value → Type 0 where
@@ -502,11 +502,11 @@ onto_or_not s (value.Ctors c cs) (given e) = elim e [ ]
 onto_or_not s (value.Decls d ds) (given e) = elim e [ ]
 
 pub onto_or_not_none : (s : Source) (v : Value) → Fits (kind.Maybe kind.Onto) (sem s v) → ((o : Bool) (t : Tree) → v ≡ value.Onto o t → ⊥) → sem s v ≡ meant.nothing
-onto_or_not_none s v h n = by_cases v (onto_or_not s v h) n
+onto_or_not_none s v h never = by_cases v (onto_or_not s v h) never
   where
     by_cases : (v : Value) → OntoOrNot v → ((o : Bool) (t : Tree) → v ≡ value.Onto o t → ⊥) → sem s v ≡ meant.nothing
-    by_cases _ OntoOrNot.nothing n = refl
-    by_cases _ (OntoOrNot.some o t) n = absurd (n o t refl)
+    by_cases _ OntoOrNot.nothing never = refl
+    by_cases _ (OntoOrNot.some o t) never = absurd (never o t refl)
 
 -- nothing, or a value of this kind
 pub data BracketsOrNot : Value → Type 0 where
@@ -535,11 +535,11 @@ bracketed_or_not s (value.Ctors c cs) (given e) = elim e [ ]
 bracketed_or_not s (value.Decls d ds) (given e) = elim e [ ]
 
 pub bracketed_or_not_none : (s : Source) (v : Value) → Fits (kind.Maybe kind.Bracketed) (sem s v) → ((ts : Vec Tree Global) → v ≡ value.Bracketed ts → ⊥) → sem s v ≡ meant.nothing
-bracketed_or_not_none s v h n = by_cases v (bracketed_or_not s v h) n
+bracketed_or_not_none s v h never = by_cases v (bracketed_or_not s v h) never
   where
     by_cases : (v : Value) → BracketsOrNot v → ((ts : Vec Tree Global) → v ≡ value.Bracketed ts → ⊥) → sem s v ≡ meant.nothing
-    by_cases _ BracketsOrNot.nothing n = refl
-    by_cases _ (BracketsOrNot.some ts) n = absurd (n ts refl)
+    by_cases _ BracketsOrNot.nothing never = refl
+    by_cases _ (BracketsOrNot.some ts) never = absurd (never ts refl)
 
 -- nothing, or a value of this kind
 pub data ProgramOrNot : Value → Type 0 where
@@ -568,8 +568,8 @@ program_or_not s (value.Ctors c cs) (given e) = elim e [ ]
 program_or_not s (value.Decls d ds) (given e) = elim e [ ]
 
 pub program_or_not_none : (s : Source) (v : Value) → Fits (kind.Maybe kind.Program) (sem s v) → ((p : Program) → v ≡ value.Program p → ⊥) → sem s v ≡ meant.nothing
-program_or_not_none s v h n = by_cases v (program_or_not s v h) n
+program_or_not_none s v h never = by_cases v (program_or_not s v h) never
   where
     by_cases : (v : Value) → ProgramOrNot v → ((p : Program) → v ≡ value.Program p → ⊥) → sem s v ≡ meant.nothing
-    by_cases _ ProgramOrNot.nothing n = refl
-    by_cases _ (ProgramOrNot.some p) n = absurd (n p refl)
+    by_cases _ ProgramOrNot.nothing never = refl
+    by_cases _ (ProgramOrNot.some p) never = absurd (never p refl)

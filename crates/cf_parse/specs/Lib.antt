@@ -10,5 +10,6 @@ pub mod Steps
 pub mod Kinds
 pub mod Evaluation
 pub mod Values
+pub mod Building
 pub mod Built
 pub mod Checks

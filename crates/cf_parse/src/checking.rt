@@ -1,13 +1,13 @@
 // Whether the tokens of a text are a program, and why not.
-ghost use Rattle.std.specs.Prelude.{◌≡◌, ◌∷◌, ◌≤◌, List, IfErr, IfOk, length};
+ghost use Rattle.std.specs.Prelude.{◌≡◌, ◌∷◌, ◌≤◌, List, IfErr, IfOk, OnOk, length};
 ghost use Rattle.cf_grammar.specs.Refusing.{Says};
+ghost use Rattle.cf_grammar.specs.declared.endings.Ending.TheVariants.{Fine};
 ghost use Rattle.cf_parse.specs.Checks.{FirstBad};
-ghost use Rattle.cf_parse.specs.Reads.{Reads, in_range};
+ghost use Rattle.cf_parse.specs.Reads.{in_range};
 ghost use Rattle.cf_parse.specs.Refusals.{IsRefused};
 ghost use Rattle.cf_parse.specs.Steps.{from};
 ghost use Rattle.cf_parse.specs.Tokens as spec;
 ghost use Rattle.cf_parse.specs.Tokens.{classes, tokens_of};
-ghost use Rattle.cf_tree.specs.Tree as trees;
 
 use crate::ends::{OutOfMemory, ParseEnd};
 use crate::numbers::is_in_range;
@@ -55,7 +55,8 @@ impl Source<'_> {
     pub fn judged(&self, ending: Ending, literal: usize) -> Result<(), ParseEnd>
         requires says { Says (classes (tokens_of self.now.tokens.now)) ending }
         requires literal { FirstBad (tokens_of self.now.tokens.now) literal }
-        ensures fine { IfOk result (λ _. (p : trees.Program) × Reads self.now.prelude self.now.tokens.now p) }
+        ensures fine { OnOk result (ending ≡ Fine) }
+        ensures ranges { OnOk result (length self.now.tokens.now.tokens ≤ literal) }
         ensures refused { IfErr result (λ e. IsRefused self.now.prelude self.now.tokens.now e) }
     {
         match ending {

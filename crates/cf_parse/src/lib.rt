@@ -1,6 +1,7 @@
 //! Reads the tokens of a text as a program.
 #![tactic(auto)]
 
+mod building;
 mod checking;
 mod ends;
 mod laws;
@@ -16,4 +17,4 @@ mod words;
 pub use cf_base::Limit;
 pub use ends::ParseEnd;
 pub use laws::reads_one;
-pub use parsing::check;
+pub use parsing::parse;

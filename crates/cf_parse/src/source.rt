@@ -14,13 +14,12 @@ use cf_grammar::Class;
 use cf_lex::{Token, TokenKind, Tokens};
 use std::alloc::Global;
 
-// The tokens of a text that is read, whether the text is the prelude's, and whether the program is explicit.
+// The tokens of a text that is read, and whether the text is the prelude's.
 #[derive(Drop)]
 pub(crate) struct Source<'a> {
     pub alloc: Global,
     pub tokens: &'a Tokens,
     pub prelude: bool,
-    pub explicit: bool,
 }
 
 // The class of a token with these bytes.

@@ -1,5 +1,5 @@
 // Small texts, and where they are refused.
-use crate::check;
+use crate::parse;
 use cf_lex::tokens;
 use std::alloc::Global;
 use std::test::Fail;
@@ -93,8 +93,8 @@ fn judged(alloc: Global, text: &[u8]) -> Result<String, Fail> {
     let Ok(found) = tokens(alloc, text) else {
         return Err(Fail::from("no tokens"));
     };
-    let shown = match check(alloc, &found, false) {
-        Ok(()) => format!(in alloc; "fine")?,
+    let shown = match parse(alloc, &found, false) {
+        Ok(_) => format!(in alloc; "fine")?,
         Err(crate::ParseEnd::Syntax(at)) => {
             let n = at.offset;
             format!(in alloc; "syntax at {n}")?
@@ -173,7 +173,7 @@ fn prelude_is_told(rt: HostRuntime) -> Result<(), Fail> {
     let Ok(found) = tokens(rt.alloc(), b"main Int") else {
         return Err(Fail::from("no tokens"));
     };
-    match check(rt.alloc(), &found, true) {
+    match parse(rt.alloc(), &found, true) {
         Err(crate::ParseEnd::Syntax(at)) => assert_eq!(rt; at.prelude, true),
         _ => return Err(Fail::from("another answer")),
     }

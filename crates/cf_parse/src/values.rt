@@ -1,8 +1,8 @@
 // The values that the parser keeps on its stack, and what they are taken for.
-ghost use Rattle.std.specs.Prelude.{◌≡◌, ◌∷◌, ℕ, List, IfOk, map, option_map, reverse};
+ghost use Rattle.std.specs.Prelude.{◌≡◌, ◌∷◌, ℕ, List, IfOk, Some, map, option_map, reverse};
 ghost use Rattle.cf_parse.specs.Kinds as kind;
 ghost use Rattle.cf_parse.specs.Kinds.{AllFit, Fits, IsToken};
-ghost use Rattle.cf_parse.specs.Meaning as meant;
+ghost use Rattle.cf_parse.specs.Meaning.{program_in};
 ghost use Rattle.cf_parse.specs.Values.{Taken, arm_of, argument_of, binder_sem, ctor_sem, decl_sem, domain_of, listed, optional_brackets, optional_onto, optional_term, sem, sems, term_of, token_of};
 ghost use Rattle.cf_parse.specs.declared.source.Source as source;
 
@@ -227,6 +227,20 @@ impl Value {
         match self {
             Value::Bracketed(ts) => Some(ts),
             _ => None,
+        }
+    }
+
+    // The program that it is, which is the empty one if nothing is written.
+    pub fn program(self, alloc: Global) -> Program
+        ensures { (s : source.Source) → Fits (kind.Maybe kind.Program) (sem s self) → program_in (sem s self) ≡ Some result }
+    {
+        match self {
+            Value::Program(p) => p,
+            _ => Program {
+                explicit: false,
+                prelude: false,
+                decls: Vec::new(alloc),
+            },
         }
     }
 }

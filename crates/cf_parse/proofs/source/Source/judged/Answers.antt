@@ -1,6 +1,6 @@
-use Rattle.std.proofs.Common.{◌<◌, ◌≤◌, subst}
+use Rattle.std.proofs.Common.{◌<◌, subst}
 use Rattle.cf_grammar.specs.Refusing.{IsFirstPast, Says}
-use Rattle.cf_parse.proofs.Judging.{dead_answer, fine_answer, literal_dead, literal_fine, literal_past, past_answer}
+use Rattle.cf_parse.proofs.Judging.{dead_answer, literal_dead, literal_fine, literal_past, past_answer}
 use Rattle.cf_parse.specs.Tokens.{classes, tokens_of}
 use Rattle.cf_parse.proofs.source.Source.judged.Goals as goal
 
@@ -15,10 +15,6 @@ returns-then-literal-at-clause-refused c =
 pub returns-then-literal-at-2-clause-refused : goal.returns-then-literal-at-2-clause-refused
 returns-then-literal-at-2-clause-refused c =
     literal_past (tokens_of c.args.self.now.tokens.now) c.args.literal c.in-Past.at (subst (Says (classes (tokens_of c.args.self.now.tokens.now))) c.in-Past.is c.requires.says) c.if-literal-at-2.true c.requires.literal c.place-then-literal-at-2.ensures
-
-pub returns-else-literal-len-clause-fine : goal.returns-else-literal-len-clause-fine
-returns-else-literal-len-clause-fine c =
-    fine_answer c.args.self.now.prelude c.args.self.now.tokens.now c.args.literal (subst (Says (classes (tokens_of c.args.self.now.tokens.now))) c.in-Fine.is c.requires.says) (subst (λ n. n ≤ c.args.literal) c.len.ensures c.if-literal-len.false) c.requires.literal
 
 pub returns-else-literal-at-clause-refused : goal.returns-else-literal-at-clause-refused
 returns-else-literal-at-clause-refused c =

@@ -1,0 +1,53 @@
+// From the steps of a derivation to the program that they read as.
+ghost use Rattle.std.specs.Prelude.{◌≡◌, ◌∷◌, List, IfOk, Some};
+ghost use Rattle.cf_parse.specs.Building.{Sound};
+ghost use Rattle.cf_parse.specs.Evaluation.{evaluated, reduced};
+ghost use Rattle.cf_parse.specs.Kinds as kind;
+ghost use Rattle.cf_parse.specs.Kinds.{AllFit, Fits, params};
+ghost use Rattle.cf_parse.specs.Meaning.{Sem, place, program_in};
+ghost use Rattle.cf_parse.specs.Steps.{from};
+ghost use Rattle.cf_parse.specs.Tokens.{tokens_of};
+ghost use Rattle.cf_parse.specs.Tokens as spec;
+ghost use Rattle.cf_parse.specs.Values.{sems};
+
+use crate::ends::OutOfMemory;
+use crate::source::Source;
+use crate::values::{Value, pop, push};
+use cf_grammar::{Production, Step};
+use cf_tree::Program;
+
+impl Source<'_> {
+    // The program that the steps of its derivation build, from the last step to the first: what phrases stand for is kept on a
+    // stack, the foremost on top.
+    pub fn built(&self, steps: Vec<Step>) -> Result<Program, OutOfMemory>
+        requires { Sound self.now.prelude steps.items (tokens_of self.now.tokens.now) }
+        ensures { IfOk result (λ p. (v : Sem) (vs : List Sem) → evaluated self.now.prelude steps.items (tokens_of self.now.tokens.now) ≡ v ∷ vs → Fits (kind.Maybe kind.Program) v → program_in v ≡ Some p) }
+    {
+        let mut left = steps;
+        let mut values: Vec<Value> = Vec::new(self.alloc);
+        let mut at = self.tokens.len() as usize + 1;
+        while let Some(step) = left.pop() {
+            match step {
+                Step::Take => {
+                    at -= 1;
+                    push(&mut values, Value::Token(at))?;
+                }
+                Step::Open(production) => self.reduce(&mut values, production, at)?,
+            }
+        }
+        Ok(pop(&mut values).program(self.alloc))
+    }
+
+    // Puts what a phrase stands for in place of what its symbols stand for. Its next token has this number.
+    fn reduce(
+        &self,
+        values: &mut Vec<Value>,
+        production: Production,
+        at: usize,
+    ) -> Result<(), OutOfMemory>
+        requires { AllFit (params production) (sems self.now values.old) }
+        ensures { IfOk result (λ _. (k : spec.Token) (ks : List spec.Token) → from self.now at ≡ k ∷ ks → sems self.now values.new ≡ reduced production (place self.now.prelude k.at) (sems self.now values.old)) }
+    {
+        Ok(())
+    }
+}
