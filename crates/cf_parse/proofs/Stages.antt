@@ -1,5 +1,6 @@
 -- One step of building after another, from the last to the first.
-use Rattle.std.proofs.Common.{◌≡◌, ◌∙◌, refl, ap, sym, subst, arith, append_assoc, ℕ, zero, suc, ◌+◌, ◌-◌, ◌≤◌, ◌<◌, Bool, List, [], ◌∷◌, ◌++◌, drop, length, take}
+use Rattle.std.proofs.Common.{◌≡◌, ◌∙◌, refl, ap, sym, subst, arith, append_assoc, ℕ, zero, suc, ◌+◌, ◌-◌, ◌≤◌, ◌<◌, Bool, List, [], ◌∷◌, ◌++◌, drop, length, take, Result, Ok, Err}
+use Rattle.std.specs.Prelude.{IfOk}
 use Rattle.cf_base.specs.declared.at.At.{At}
 use Rattle.cf_grammar.specs.declared.productions.Production.{Production}
 use Rattle.cf_grammar.specs.declared.productions.Step.{Step}
@@ -100,3 +101,8 @@ ended {b = b} {all = all} {ks = ks} {at = at} g = g.means ∙ (λ i. evaluated b
 -- a list from which nothing was taken
 pub none_left : {A : Type 0} (items rest : List A) (n : ℕ) → n ≡ 0 → rest ≡ take (n - 1) items → items ≡ rest ++ [] → items ≡ []
 none_left items rest n z r e = e ∙ ap (λ l. l ++ []) (r ∙ ap (λ m. take (m - 1) items) z)
+
+-- what holds where a call ended well
+pub mapped : {T E : Type 0} {P Q : T → Type 0} (r : Result T E) → ((t : T) → P t → Q t) → IfOk r P → IfOk r Q
+mapped (Ok t) f h = f t h
+mapped (Err e) f h = tt

@@ -1,19 +1,16 @@
 // From the steps of a derivation to the program that they read as.
 ghost use Rattle.std.specs.Prelude.{◌≡◌, ◌∷◌, List, IfOk, Some};
 ghost use Rattle.cf_parse.specs.Building.{Sound};
-ghost use Rattle.cf_parse.specs.Evaluation.{evaluated, reduced};
+ghost use Rattle.cf_parse.specs.Evaluation.{evaluated};
 ghost use Rattle.cf_parse.specs.Kinds as kind;
-ghost use Rattle.cf_parse.specs.Kinds.{AllFit, Fits, params};
-ghost use Rattle.cf_parse.specs.Meaning.{Sem, place, program_in};
-ghost use Rattle.cf_parse.specs.Steps.{from};
+ghost use Rattle.cf_parse.specs.Kinds.{Fits};
+ghost use Rattle.cf_parse.specs.Meaning.{Sem, program_in};
 ghost use Rattle.cf_parse.specs.Tokens.{tokens_of};
-ghost use Rattle.cf_parse.specs.Tokens as spec;
-ghost use Rattle.cf_parse.specs.Values.{sems};
 
 use crate::ends::OutOfMemory;
 use crate::source::Source;
 use crate::values::{Value, pop, push};
-use cf_grammar::{Production, Step};
+use cf_grammar::Step;
 use cf_tree::Program;
 
 impl Source<'_> {
@@ -36,18 +33,5 @@ impl Source<'_> {
             }
         }
         Ok(pop(&mut values).program(self.alloc))
-    }
-
-    // Puts what a phrase stands for in place of what its symbols stand for. Its next token has this number.
-    fn reduce(
-        &self,
-        values: &mut Vec<Value>,
-        production: Production,
-        at: usize,
-    ) -> Result<(), OutOfMemory>
-        requires { AllFit (params production) (sems self.now values.old) }
-        ensures { IfOk result (λ _. (k : spec.Token) (ks : List spec.Token) → from self.now at ≡ k ∷ ks → sems self.now values.new ≡ reduced production (place self.now.prelude k.at) (sems self.now values.old)) }
-    {
-        Ok(())
     }
 }

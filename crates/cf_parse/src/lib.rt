@@ -8,6 +8,7 @@ mod laws;
 mod numbers;
 mod parsing;
 mod parts;
+mod reducing;
 mod source;
 #[cfg(test)]
 mod tests;
