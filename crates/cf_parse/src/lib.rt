@@ -3,8 +3,10 @@
 
 mod building;
 mod checking;
+mod declarations;
 mod ends;
 mod laws;
+mod lists;
 mod numbers;
 mod parsing;
 mod parts;
