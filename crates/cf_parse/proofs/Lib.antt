@@ -15,3 +15,4 @@ pub mod Unique
 pub mod Popping
 pub mod Names
 pub mod Declaring
+pub mod Reducing

@@ -2,6 +2,7 @@
 #![tactic(auto)]
 
 mod building;
+mod binding;
 mod checking;
 mod declarations;
 mod ends;
@@ -12,6 +13,7 @@ mod parsing;
 mod parts;
 mod reducing;
 mod source;
+mod terms;
 #[cfg(test)]
 mod tests;
 mod values;

@@ -1,0 +1,429 @@
+// Terms that bind variables, and what stands behind an arrow.
+ghost use Rattle.std.specs.Prelude.{◌≡◌, ◌∷◌, [], IfOk, false, reverse, true};
+ghost use Rattle.cf_grammar.specs.declared.classes.Class.{Class};
+ghost use Rattle.cf_grammar.specs.declared.productions.Production.TheVariants as by;
+ghost use Rattle.cf_tree.specs.Tree.{Plain, part, tree};
+ghost use Rattle.cf_tree.specs.View.{binders_of, branches};
+ghost use Rattle.cf_tree.specs.declared.heads.Head.TheVariants as head;
+ghost use Rattle.cf_parse.specs.Evaluation.{reduced};
+ghost use Rattle.cf_parse.specs.Kinds as kind;
+ghost use Rattle.cf_parse.specs.Kinds.{AllFit, Fits, params};
+ghost use Rattle.cf_parse.specs.Meaning.{Sem, or_missing};
+ghost use Rattle.cf_parse.specs.Meaning as meant;
+ghost use Rattle.cf_parse.specs.Values.{arm_of, binder_sem, domain_of, optional_onto, sems, term_of, token_of};
+
+use crate::ends::OutOfMemory;
+use crate::parts::{Domain, or_missing};
+use crate::source::Source;
+use crate::values::{Value, pop, push};
+use cf_base::At;
+use cf_tree::{Branch, Definition, Named, Node, Tree};
+use std::alloc::Global;
+
+// A function of the meta language.
+fn lambda_tree(alloc: Global, at: At, domain: Domain, body: Tree) -> Result<Tree, OutOfMemory>
+    ensures { IfOk result (λ t. (k l : Sem) → term_of t ≡ meant.lambda at (k ∷ domain_of domain ∷ l ∷ term_of body ∷ [])) }
+{
+    let ty = or_missing(at, domain.ty);
+    let node = Node::Lam {
+        implicit: domain.implicit,
+        binder: domain.binder,
+        domain: Box::new(alloc, ty)?,
+        body: Box::new(alloc, body)?,
+    };
+    Ok(Tree { at, node })
+}
+
+// A function of the object language.
+fn function_tree(alloc: Global, at: At, domain: Domain, body: Tree) -> Result<Tree, OutOfMemory>
+    ensures { IfOk result (λ t. (k l : Sem) → term_of t ≡ meant.function at (k ∷ domain_of domain ∷ l ∷ term_of body ∷ [])) }
+{
+    let ty = or_missing(at, domain.ty);
+    let node = Node::OLam {
+        binder: domain.binder,
+        domain: Box::new(alloc, ty)?,
+        body: Box::new(alloc, body)?,
+    };
+    Ok(Tree { at, node })
+}
+
+// A type of functions.
+fn function_type_tree(
+    alloc: Global,
+    at: At,
+    domain: Domain,
+    codomain: Tree,
+) -> Result<Tree, OutOfMemory>
+    ensures { IfOk result (λ t. (k l : Sem) → term_of t ≡ meant.function_type at (k ∷ domain_of domain ∷ l ∷ term_of codomain ∷ [])) }
+{
+    let ty = or_missing(at, domain.ty);
+    let node = Node::Pi {
+        implicit: domain.implicit,
+        binder: domain.binder,
+        domain: Box::new(alloc, ty)?,
+        codomain: Box::new(alloc, codomain)?,
+    };
+    Ok(Tree { at, node })
+}
+
+// A type of pairs.
+fn pair_type_tree(
+    alloc: Global,
+    at: At,
+    binder: Option<String>,
+    first: Tree,
+    second: Tree,
+) -> Result<Tree, OutOfMemory>
+    ensures { IfOk result (λ t. (k l m n o : Sem) → term_of t ≡ meant.pair_type at (k ∷ l ∷ binder_sem binder ∷ m ∷ term_of first ∷ n ∷ o ∷ term_of second ∷ [])) }
+{
+    let node = Node::Sig {
+        binder,
+        first: Box::new(alloc, first)?,
+        second: Box::new(alloc, second)?,
+    };
+    Ok(Tree { at, node })
+}
+
+// A definition of the meta language.
+fn meta_let_tree(
+    alloc: Global,
+    at: At,
+    binder: Option<String>,
+    ty: Tree,
+    value: Tree,
+    body: Tree,
+) -> Result<Tree, OutOfMemory>
+    ensures { IfOk result (λ t. (k l m n : Sem) → term_of t ≡ meant.definition head.Let at (k ∷ binder_sem binder ∷ l ∷ term_of ty ∷ m ∷ term_of value ∷ n ∷ term_of body ∷ [])) }
+{
+    let node = Node::Let {
+        binder,
+        ty: Box::new(alloc, ty)?,
+        value: Box::new(alloc, value)?,
+        body: Box::new(alloc, body)?,
+    };
+    Ok(Tree { at, node })
+}
+
+// A definition of the object language.
+fn value_let_tree(
+    alloc: Global,
+    at: At,
+    binder: Option<String>,
+    ty: Tree,
+    value: Tree,
+    body: Tree,
+) -> Result<Tree, OutOfMemory>
+    ensures { IfOk result (λ t. (k l m n : Sem) → term_of t ≡ meant.definition head.LetV at (k ∷ binder_sem binder ∷ l ∷ term_of ty ∷ m ∷ term_of value ∷ n ∷ term_of body ∷ [])) }
+{
+    let node = Node::LetV {
+        binder,
+        ty: Box::new(alloc, ty)?,
+        value: Box::new(alloc, value)?,
+        body: Box::new(alloc, body)?,
+    };
+    Ok(Tree { at, node })
+}
+
+// A recursive definition.
+fn recursion_tree(
+    alloc: Global,
+    at: At,
+    binder: Option<String>,
+    ty: Tree,
+    value: Tree,
+    body: Tree,
+) -> Result<Tree, OutOfMemory>
+    ensures { IfOk result (λ t. (k l m n : Sem) → term_of t ≡ meant.recursion at (k ∷ binder_sem binder ∷ l ∷ term_of ty ∷ m ∷ term_of value ∷ n ∷ term_of body ∷ [])) }
+{
+    let ty = Box::new(alloc, ty)?;
+    let value = Box::new(alloc, value)?;
+    let body = Box::new(alloc, body)?;
+    let definition = Definition { binder, ty, value };
+    let mut definitions = Vec::new(alloc);
+    definitions.push(definition)?;
+    let node = Node::LetRec { definitions, body };
+    Ok(Tree { at, node })
+}
+
+// A look at a value, by the constructor that it is made with. The arms have the last one first.
+fn cases_tree(
+    alloc: Global,
+    at: At,
+    scrutinee: Tree,
+    ty: Option<Tree>,
+    arms: Vec<Branch>,
+) -> Result<Tree, OutOfMemory>
+    ensures { IfOk result (λ t. t ≡ tree at (Plain head.Case) (part [] scrutinee (part [] (or_missing at ty) (branches (reverse arms.items))))) }
+{
+    let ty = or_missing(at, ty);
+    let scrutinee = Box::new(alloc, scrutinee)?;
+    let ty = Box::new(alloc, ty)?;
+    let branches = arms_in_order(arms);
+    let node = Node::Case {
+        scrutinee,
+        ty,
+        branches,
+    };
+    Ok(Tree { at, node })
+}
+
+// The arms, the first one first.
+fn arms_in_order(mut arms: Vec<Branch>) -> Vec<Branch>
+    ensures { result.items ≡ reverse arms.items }
+{
+    arms.reverse();
+    arms
+}
+
+// The binders, the first one first.
+fn binders_in_order(mut names: Vec<Option<String>>) -> Vec<Option<String>>
+    ensures { result.items ≡ reverse names.items }
+{
+    names.reverse();
+    names
+}
+
+// An arm of a look at a value. The names have the last one first.
+fn new_arm(
+    alloc: Global,
+    ctor: Named,
+    names: Vec<Option<String>>,
+    body: Tree,
+) -> Result<Branch, OutOfMemory>
+    ensures { IfOk result (λ b. arm_of b ≡ meant.arm ctor (binders_of (reverse names.items)) body) }
+{
+    let body = Box::new(alloc, body)?;
+    let names = binders_in_order(names);
+    Ok(Branch { ctor, names, body })
+}
+
+// A type of functions without a name.
+fn meta_arrow(alloc: Global, at: At, domain: Tree, codomain: Tree) -> Result<Tree, OutOfMemory>
+    ensures { IfOk result (λ t. term_of t ≡ meant.arrow at (term_of domain ∷ meant.onto false codomain ∷ [])) }
+{
+    let node = Node::Pi {
+        implicit: false,
+        binder: None,
+        domain: Box::new(alloc, domain)?,
+        codomain: Box::new(alloc, codomain)?,
+    };
+    Ok(Tree { at, node })
+}
+
+// A type of functions of the object language.
+fn object_arrow(alloc: Global, at: At, domain: Tree, codomain: Tree) -> Result<Tree, OutOfMemory>
+    ensures { IfOk result (λ t. term_of t ≡ meant.arrow at (term_of domain ∷ meant.onto true codomain ∷ [])) }
+{
+    let domain = Box::new(alloc, domain)?;
+    let codomain = Box::new(alloc, codomain)?;
+    let node = Node::Arr(domain, codomain);
+    Ok(Tree { at, node })
+}
+
+// A term, with what stands behind its arrow, if it has one.
+fn arrow_tree(
+    alloc: Global,
+    at: At,
+    domain: Tree,
+    onto: Option<(bool, Tree)>,
+) -> Result<Tree, OutOfMemory>
+    ensures { IfOk result (λ t. term_of t ≡ meant.arrow at (term_of domain ∷ optional_onto onto ∷ [])) }
+{
+    match onto {
+        None => Ok(domain),
+        Some((true, codomain)) => object_arrow(alloc, at, domain, codomain),
+        Some((false, codomain)) => meta_arrow(alloc, at, domain, codomain),
+    }
+}
+
+impl Source<'_> {
+    // `\x. t`
+    pub fn lambda(&self, values: &mut Vec<Value>, place: At) -> Result<(), OutOfMemory>
+        requires { AllFit (params by.Lambda) (sems self.now values.old) }
+        ensures { IfOk result (λ _. sems self.now values.new ≡ reduced by.Lambda place (sems self.now values.old)) }
+    {
+        pop(values);
+        let domain = pop(values).domain();
+        pop(values);
+        let body = pop(values).term();
+        let tree = lambda_tree(self.alloc, place, domain, body)?;
+        push(values, Value::Term(tree))?;
+        Ok(())
+    }
+
+    // `fn (x : a). t`
+    pub fn function(&self, values: &mut Vec<Value>, place: At) -> Result<(), OutOfMemory>
+        requires { AllFit (params by.Function) (sems self.now values.old) }
+        ensures { IfOk result (λ _. sems self.now values.new ≡ reduced by.Function place (sems self.now values.old)) }
+    {
+        pop(values);
+        let domain = pop(values).domain();
+        pop(values);
+        let body = pop(values).term();
+        let tree = function_tree(self.alloc, place, domain, body)?;
+        push(values, Value::Term(tree))?;
+        Ok(())
+    }
+
+    // `Pi (x : a) -> b`
+    pub fn function_type(&self, values: &mut Vec<Value>, place: At) -> Result<(), OutOfMemory>
+        requires { AllFit (params by.Pi) (sems self.now values.old) }
+        ensures { IfOk result (λ _. sems self.now values.new ≡ reduced by.Pi place (sems self.now values.old)) }
+    {
+        pop(values);
+        let domain = pop(values).domain();
+        pop(values);
+        let codomain = pop(values).term();
+        let tree = function_type_tree(self.alloc, place, domain, codomain)?;
+        push(values, Value::Term(tree))?;
+        Ok(())
+    }
+
+    // `mlet x : a := t; u`
+    pub fn meta_let(&self, values: &mut Vec<Value>, place: At) -> Result<(), OutOfMemory>
+        requires { AllFit (params by.Let) (sems self.now values.old) }
+        ensures { IfOk result (λ _. sems self.now values.new ≡ reduced by.Let place (sems self.now values.old)) }
+    {
+        pop(values);
+        let binder = pop(values).binder();
+        pop(values);
+        let ty = pop(values).term();
+        pop(values);
+        let value = pop(values).term();
+        pop(values);
+        let body = pop(values).term();
+        let tree = meta_let_tree(self.alloc, place, binder, ty, value, body)?;
+        push(values, Value::Term(tree))?;
+        Ok(())
+    }
+
+    // `let x : a := t; u`
+    pub fn value_let(&self, values: &mut Vec<Value>, place: At) -> Result<(), OutOfMemory>
+        requires { AllFit (params by.LetV) (sems self.now values.old) }
+        ensures { IfOk result (λ _. sems self.now values.new ≡ reduced by.LetV place (sems self.now values.old)) }
+    {
+        pop(values);
+        let binder = pop(values).binder();
+        pop(values);
+        let ty = pop(values).term();
+        pop(values);
+        let value = pop(values).term();
+        pop(values);
+        let body = pop(values).term();
+        let tree = value_let_tree(self.alloc, place, binder, ty, value, body)?;
+        push(values, Value::Term(tree))?;
+        Ok(())
+    }
+
+    // `letrec x : a := t; u`
+    pub fn recursion(&self, values: &mut Vec<Value>, place: At) -> Result<(), OutOfMemory>
+        requires { AllFit (params by.LetRec) (sems self.now values.old) }
+        ensures { IfOk result (λ _. sems self.now values.new ≡ reduced by.LetRec place (sems self.now values.old)) }
+    {
+        pop(values);
+        let binder = pop(values).binder();
+        pop(values);
+        let ty = pop(values).term();
+        pop(values);
+        let value = pop(values).term();
+        pop(values);
+        let body = pop(values).term();
+        let tree = recursion_tree(self.alloc, place, binder, ty, value, body)?;
+        push(values, Value::Term(tree))?;
+        Ok(())
+    }
+
+    // `Sig (x : a), b`
+    pub fn pair_type(&self, values: &mut Vec<Value>, place: At) -> Result<(), OutOfMemory>
+        requires { AllFit (params by.Sig) (sems self.now values.old) }
+        ensures { IfOk result (λ _. sems self.now values.new ≡ reduced by.Sig place (sems self.now values.old)) }
+    {
+        pop(values);
+        pop(values);
+        let binder = pop(values).binder();
+        pop(values);
+        let first = pop(values).term();
+        pop(values);
+        pop(values);
+        let second = pop(values).term();
+        let tree = pair_type_tree(self.alloc, place, binder, first, second)?;
+        push(values, Value::Term(tree))?;
+        Ok(())
+    }
+
+    // `case t : a of { .. }`
+    pub fn cases(&self, values: &mut Vec<Value>, place: At) -> Result<(), OutOfMemory>
+        requires { AllFit (params by.Case) (sems self.now values.old) }
+        ensures { IfOk result (λ _. sems self.now values.new ≡ reduced by.Case place (sems self.now values.old)) }
+    {
+        pop(values);
+        let scrutinee = pop(values).term();
+        let ty = pop(values).optional_term();
+        pop(values);
+        pop(values);
+        let arms = pop(values).arms(self.alloc)?;
+        pop(values);
+        let tree = cases_tree(self.alloc, place, scrutinee, ty, arms)?;
+        push(values, Value::Term(tree))?;
+        Ok(())
+    }
+
+    // `c x .. . t`
+    pub fn branch(&self, values: &mut Vec<Value>, place: At) -> Result<(), OutOfMemory>
+        requires { AllFit (params by.Branch) (sems self.now values.old) }
+        ensures { IfOk result (λ _. sems self.now values.new ≡ reduced by.Branch place (sems self.now values.old)) }
+    {
+        let ctor = pop(values).token();
+        let names = pop(values).binders(self.alloc)?;
+        pop(values);
+        let body = pop(values).term();
+        let name = self.name_at(ctor)?;
+        let arm = new_arm(self.alloc, name, names, body)?;
+        push(values, Value::Arm(arm))?;
+        Ok(())
+    }
+
+    // a term, and maybe an arrow behind it
+    pub fn arrow(&self, values: &mut Vec<Value>, place: At) -> Result<(), OutOfMemory>
+        requires { AllFit (params by.Arrow) (sems self.now values.old) }
+        ensures { IfOk result (λ _. sems self.now values.new ≡ reduced by.Arrow place (sems self.now values.old)) }
+    {
+        let domain = pop(values).term();
+        let onto = pop(values).onto();
+        let tree = arrow_tree(self.alloc, place, domain, onto)?;
+        push(values, Value::Term(tree))?;
+        Ok(())
+    }
+
+    // `-> b`
+    pub fn onto_meta(&self, values: &mut Vec<Value>, place: At) -> Result<(), OutOfMemory>
+        requires { AllFit (params by.OntoMeta) (sems self.now values.old) }
+        ensures { IfOk result (λ _. sems self.now values.new ≡ reduced by.OntoMeta place (sems self.now values.old)) }
+    {
+        pop(values);
+        let codomain = pop(values).term();
+        push(values, Value::Onto(false, codomain))?;
+        Ok(())
+    }
+
+    // `=> b`
+    pub fn onto_object(&self, values: &mut Vec<Value>, place: At) -> Result<(), OutOfMemory>
+        requires { AllFit (params by.OntoObject) (sems self.now values.old) }
+        ensures { IfOk result (λ _. sems self.now values.new ≡ reduced by.OntoObject place (sems self.now values.old)) }
+    {
+        pop(values);
+        let codomain = pop(values).term();
+        push(values, Value::Onto(true, codomain))?;
+        Ok(())
+    }
+
+    // The name with this number, and where it stands.
+    fn name_at(&self, at: usize) -> Result<Named, OutOfMemory>
+        ensures { IfOk result (λ n. Fits kind.Name (token_of self.now at) → (c : Class) × (token_of self.now at ≡ meant.token n.at c n.name)) }
+    {
+        Ok(Named {
+            at: self.place(at),
+            name: self.text(at)?,
+        })
+    }
+}
