@@ -16,3 +16,5 @@ pub mod Popping
 pub mod Names
 pub mod Declaring
 pub mod Reducing
+pub mod Taken
+pub mod Joined

@@ -3,6 +3,8 @@
 
 mod building;
 mod binding;
+mod applying;
+mod atoms;
 mod checking;
 mod declarations;
 mod ends;
@@ -14,6 +16,7 @@ mod parts;
 mod reducing;
 mod source;
 mod terms;
+mod taking;
 #[cfg(test)]
 mod tests;
 mod values;

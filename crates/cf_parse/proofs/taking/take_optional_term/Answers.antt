@@ -1,0 +1,6 @@
+use Rattle.cf_parse.proofs.Taken.{retold}
+use Rattle.cf_parse.specs.Kinds as kind
+use Rattle.cf_parse.proofs.taking.take_optional_term.Goals as goal
+
+pub returns : goal.returns
+returns c = λ s. retold (c.pop.ensures s (kind.Maybe kind.Term)) (c.optional_term.ensures s)

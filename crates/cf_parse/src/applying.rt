@@ -1,0 +1,163 @@
+// What is applied to arguments or operands, and right sides that mean what one of their symbols does.
+ghost use Rattle.std.specs.Prelude.{◌≡◌, ◌∷◌, [], IfOk, map, reverse};
+ghost use Rattle.cf_grammar.specs.declared.productions.Production.TheVariants as by;
+ghost use Rattle.cf_parse.specs.Evaluation.{reduced};
+ghost use Rattle.cf_parse.specs.Kinds.{AllFit, params};
+ghost use Rattle.cf_parse.specs.Meaning as meant;
+ghost use Rattle.cf_parse.specs.Values.{argument_of, listed, sems, term_of};
+ghost use Rattle.cf_tree.specs.declared.heads.Head.TheVariants as head;
+
+use crate::ends::OutOfMemory;
+use crate::parts::Argument;
+use crate::source::Source;
+use crate::taking::take_term;
+use crate::values::{Value, pop, push};
+use cf_base::At;
+use cf_tree::{Node, Tree};
+use std::alloc::Global;
+
+// A term with one operand more.
+fn with_operand(alloc: Global, at: At, t: Tree, u: Tree) -> Result<Tree, OutOfMemory>
+    ensures { IfOk result (λ v. v ≡ meant.form at head.OApp (t ∷ u ∷ [])) }
+{
+    let t = Box::new(alloc, t)?;
+    let u = Box::new(alloc, u)?;
+    Ok(Tree {
+        at,
+        node: Node::OApp(t, u),
+    })
+}
+
+// A term with operands; the last one comes first.
+fn with_operands(
+    alloc: Global,
+    at: At,
+    t: Tree,
+    operands: Vec<Tree>,
+) -> Result<Tree, OutOfMemory>
+    ensures { IfOk result (λ v. v ≡ meant.operands at t (listed (map term_of (reverse operands.items)))) }
+{
+    let mut t = t;
+    let mut operands = operands;
+    while let Some(u) = operands.pop() {
+        t = with_operand(alloc, at, t, u)?;
+    }
+    Ok(t)
+}
+
+// A term with one argument more.
+fn with_argument(alloc: Global, at: At, t: Tree, u: Argument) -> Result<Tree, OutOfMemory>
+    ensures { IfOk result (λ v. v ≡ meant.form at (head.App u.implicit) (t ∷ u.term ∷ [])) }
+{
+    let function = Box::new(alloc, t)?;
+    let argument = Box::new(alloc, u.term)?;
+    Ok(Tree {
+        at,
+        node: Node::App {
+            implicit: u.implicit,
+            function,
+            argument,
+        },
+    })
+}
+
+// A term with arguments; the last one comes first.
+fn with_arguments(
+    alloc: Global,
+    at: At,
+    t: Tree,
+    arguments: Vec<Argument>,
+) -> Result<Tree, OutOfMemory>
+    ensures { IfOk result (λ v. v ≡ meant.arguments at t (listed (map argument_of (reverse arguments.items)))) }
+{
+    let mut t = t;
+    let mut arguments = arguments;
+    while let Some(u) = arguments.pop() {
+        t = with_argument(alloc, at, t, u)?;
+    }
+    Ok(t)
+}
+
+impl Source<'_> {
+    // `t @ u @ ..`
+    pub fn chain(&self, values: &mut Vec<Value>, place: At) -> Result<(), OutOfMemory>
+        requires { AllFit (params by.Chain) (sems self.now values.old) }
+        ensures { IfOk result (λ _. sems self.now values.new ≡ reduced by.Chain place (sems self.now values.old)) }
+    {
+        let first = take_term(values);
+        let operands = pop(values).terms(self.alloc)?;
+        let t = with_operands(self.alloc, place, first, operands)?;
+        push(values, Value::Term(t))?;
+        Ok(())
+    }
+
+    // `t u {v} ..`
+    pub fn application(&self, values: &mut Vec<Value>, place: At) -> Result<(), OutOfMemory>
+        requires { AllFit (params by.Application) (sems self.now values.old) }
+        ensures { IfOk result (λ _. sems self.now values.new ≡ reduced by.Application place (sems self.now values.old)) }
+    {
+        let function = take_term(values);
+        let arguments = pop(values).arguments(self.alloc)?;
+        let t = with_arguments(self.alloc, place, function, arguments)?;
+        push(values, Value::Term(t))?;
+        Ok(())
+    }
+
+    // an argument
+    pub fn explicit_argument(&self, values: &mut Vec<Value>, place: At) -> Result<(), OutOfMemory>
+        requires { AllFit (params by.ExplicitArgument) (sems self.now values.old) }
+        ensures { IfOk result (λ _. sems self.now values.new ≡ reduced by.ExplicitArgument place (sems self.now values.old)) }
+    {
+        let term = take_term(values);
+        let argument = Argument {
+            implicit: false,
+            term,
+        };
+        push(values, Value::Argument(argument))?;
+        Ok(())
+    }
+
+    // an argument between braces
+    pub fn implicit_argument(&self, values: &mut Vec<Value>, place: At) -> Result<(), OutOfMemory>
+        requires { AllFit (params by.ImplicitArgument) (sems self.now values.old) }
+        ensures { IfOk result (λ _. sems self.now values.new ≡ reduced by.ImplicitArgument place (sems self.now values.old)) }
+    {
+        pop(values);
+        let term = take_term(values);
+        pop(values);
+        let argument = Argument {
+            implicit: true,
+            term,
+        };
+        push(values, Value::Argument(argument))?;
+        Ok(())
+    }
+
+    // what its only symbol means
+    pub fn same(&self, values: &mut Vec<Value>, place: At) -> Result<(), OutOfMemory>
+        requires { AllFit (params by.Same) (sems self.now values.old) }
+        ensures { IfOk result (λ _. sems self.now values.new ≡ reduced by.Same place (sems self.now values.old)) }
+    {
+        Ok(())
+    }
+
+    // a part behind a mark
+    pub fn behind(&self, values: &mut Vec<Value>, place: At) -> Result<(), OutOfMemory>
+        requires { AllFit (params by.Behind) (sems self.now values.old) }
+        ensures { IfOk result (λ _. sems self.now values.new ≡ reduced by.Behind place (sems self.now values.old)) }
+    {
+        pop(values);
+        let part = pop(values);
+        push(values, part)?;
+        Ok(())
+    }
+
+    // no symbol
+    pub fn empty(&self, values: &mut Vec<Value>, place: At) -> Result<(), OutOfMemory>
+        requires { AllFit (params by.Empty) (sems self.now values.old) }
+        ensures { IfOk result (λ _. sems self.now values.new ≡ reduced by.Empty place (sems self.now values.old)) }
+    {
+        push(values, Value::Nothing)?;
+        Ok(())
+    }
+}
