@@ -1,0 +1,9 @@
+pub mod Scope
+pub mod Resolving
+pub mod Forms
+pub mod Core
+pub mod Refusals
+pub mod Names
+pub mod Kinds
+pub mod Steps
+pub mod Declaring
