@@ -50,6 +50,7 @@ declare g (DataD d ps cs) =
 declare g (MetaD d a t) = new_name g d >>= (λ x. resolve g [] a >>= (λ b. resolve g [] t >>= (λ u. pure (MetaC x b u, with_variable x g))))
 declare g (ObjectD d a t) = new_name g d >>= (λ x. resolve g [] a >>= (λ b. resolve g [] t >>= (λ u. pure (ObjectC x b u, with_variable x g))))
 
+-- the declarations in order, each below those in front of it
 abbrev pub declare_all : Globals → List DeclTree → Resolving (List Declaration)
 declare_all g [] = pure []
 declare_all g (d ∷ ds) = declare g d >>= (λ r. declare_all r.1 ds >>= (λ cs. pure (r.0 ∷ cs)))

@@ -10,6 +10,7 @@ use Rattle.cf_tree.specs.declared.heads.Op.TheVariants as op
 use Rattle.cf_tree.specs.declared.heads.Head as tree
 use Rattle.cf_tree.specs.declared.heads.Head.TheVariants as head
 
+-- the operation of the same name
 abbrev pub core_op : written.Op → Op
 core_op op.Add = core.Add
 core_op op.Sub = core.Sub
@@ -29,6 +30,7 @@ abbrev pub definitions : Tms → ℕ
 definitions (cons a (cons t ts)) = suc (definitions ts)
 definitions _ = 0
 
+-- the form itself, which takes no hole
 abbrev pub plain : Head → Tms → Resolving Tm
 plain h ts = pure (node h ts)
 

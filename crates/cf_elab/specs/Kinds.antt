@@ -14,6 +14,7 @@ use Rattle.cf_elab.specs.declared.kinds.Binder.TheVariants as binder
 use Rattle.cf_elab.specs.declared.kinds.Definer.{Definer}
 use Rattle.cf_elab.specs.declared.kinds.Definer.TheVariants as definer
 
+-- the form with one part of this kind
 abbrev pub unary_head : Unary → Head
 unary_head unary.Fst = head.Fst
 unary_head unary.Snd = head.Snd
@@ -27,6 +28,7 @@ unary_head unary.C = head.C
 unary_head unary.Fail = head.Fail
 unary_head unary.Splice = head.Splice
 
+-- the form with two parts of this kind
 abbrev pub binary_head : Binary → Head
 binary_head (binary.App i) = head.App i
 binary_head binary.Cons = head.Cons
@@ -34,21 +36,25 @@ binary_head binary.Arr = head.Arr
 binary_head (binary.Prim o) = head.Prim o
 binary_head binary.OApp = head.OApp
 
+-- the form with three parts of this kind
 abbrev pub ternary_head : Ternary → Head
 ternary_head ternary.Pair = head.Pair
 ternary_head ternary.UnitRec = head.UnitRec
 
+-- the form with four parts of this kind
 abbrev pub quaternary_head : Quaternary → Head
 quaternary_head quaternary.BoolRec = head.BoolRec
 quaternary_head quaternary.NatRec = head.NatRec
 quaternary_head quaternary.ListRec = head.ListRec
 
+-- the form of this kind with the type of a variable, and a part under it
 abbrev pub binder_head : Binder → Head
 binder_head (binder.Pi i) = head.Pi i
 binder_head (binder.Lam i) = head.Lam i
 binder_head binder.Sig = head.Sig
 binder_head binder.OLam = head.OLam
 
+-- the form of this kind with the type of a variable, what it stands for, and a part under it
 abbrev pub definer_head : Definer → Head
 definer_head definer.Let = head.Let
 definer_head definer.LetV = head.LetV

@@ -6,6 +6,7 @@ use Rattle.std.specs.declared.string.String.{String}
 use Rattle.cf_tree.specs.Tree.{Name, Binder}
 use Rattle.cf_elab.specs.declared.numbers.CtorNumber.{CtorNumber}
 
+-- a name in a table
 abbrev pub Text : Type 0
 Text = String Global
 
@@ -13,6 +14,7 @@ Text = String Global
 abbrev pub names_of : List Text → List Name
 names_of = map string_bytes
 
+-- the bytes of each name, with the numbers that stand beside it
 abbrev pub named_numbers : List (Text × CtorNumber) → List (Name × CtorNumber)
 named_numbers = map (λ e. (string_bytes e.0, e.1))
 

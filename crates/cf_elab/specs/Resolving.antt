@@ -14,9 +14,11 @@ pub data Resolved (A : Type 0) : Type 0 where
 abbrev pub Resolving : Type 0 → Type 0
 Resolving A = (holes : ℕ) → Resolved A
 
+-- this, with no new hole
 abbrev pub pure : {A : Type 0} → A → Resolving A
 pure a n = As a n
 
+-- what was read goes on, and a name that is wrong ends the reading
 abbrev pub and_then : {A B : Type 0} → Resolved A → (A → Resolving B) → Resolved B
 and_then (As a n) f = f a n
 and_then (Unknown p) f = Unknown p
@@ -26,6 +28,7 @@ and_then (Twice p) f = Twice p
 abbrev pub ◌>>=◌ : {A B : Type 0} → Resolving A → (A → Resolving B) → Resolving B
 ◌>>=◌ m f n = and_then (m n) f
 
+-- what the name at this place stands for; where it stands for nothing it is the wrong one
 abbrev pub or_unknown : {A : Type 0} → At → Option A → Resolving A
 or_unknown p (Some a) = pure a
 or_unknown p None = λ n. Unknown p

@@ -31,6 +31,7 @@ abbrev pub under : List Binder → List Binder → List Binder
 under [] locals = locals
 under (b ∷ bs) locals = under bs (b ∷ locals)
 
+-- the binder has this name; `_` has none
 abbrev pub is_named : Name → Binder → Bool
 is_named x (Some y) = bytes_eq x y
 is_named x None = false
@@ -39,9 +40,11 @@ is_named x None = false
 abbrev pub variable_of : Globals → List Binder → Name → Option ℕ
 variable_of g locals x = position (is_named x) (locals ++ map Some g.variables)
 
+-- the number of the data type of this name
 abbrev pub type_of : Globals → Name → Option ℕ
 type_of g x = position (bytes_eq x) g.types
 
+-- the numbers of the constructor of this name, where it may be used
 abbrev pub ctor_of : Globals → Name → Option CtorNumber
 ctor_of g x = lookup (bytes_eq x) g.ctors
 
@@ -50,9 +53,11 @@ abbrev pub is_taken : Globals → Name → Bool
 is_taken g x =
     list_any (bytes_eq x) g.variables || list_any (bytes_eq x) g.types || list_any (λ c. bytes_eq x c.0) g.ctors || list_any (λ c. bytes_eq x c.0) g.own
 
+-- one more global variable
 abbrev pub with_variable : Name → Globals → Globals
 with_variable x g = record { variables = x ∷ g.variables; types = g.types; ctors = g.ctors; own = g.own }
 
+-- one more data type, with the next number
 abbrev pub with_type : Name → Globals → Globals
 with_type x g = record { variables = g.variables; types = g.types ++ x ∷ []; ctors = g.ctors; own = g.own }
 

@@ -24,7 +24,7 @@ pub struct Scope<'a> {
     pub holes: u32,
 }
 
-// A number of 32 bits.
+/// A number of 32 bits.
 pub fn number(n: usize) -> Result<u32, NameEnd>
     ensures value { IfOk result (λ m. m ≡ n) }
     ensures refused { IfErr result (λ e. e ≡ end.NoMemory) }
@@ -42,7 +42,7 @@ fn sum(a: u32, b: u32) -> Result<u32, NameEnd>
     a.checked_add(b).ok_or(NameEnd::NoMemory)
 }
 
-// The variable of this name, counted from the innermost one.
+/// The variable of this name, counted from the innermost one.
 pub fn variable(g: &Globals, locals: &Locals<'_>, at: At, name: &String) -> Result<u32, NameEnd>
     ensures value { IfOk result (λ i. spec.variable_of g.now locals.now (string_bytes name.now) ≡ Some i) }
     ensures refused { IfErr result (λ e. IsUnbound at (spec.variable_of g.now locals.now (string_bytes name.now)) e) }
@@ -60,7 +60,7 @@ pub fn variable(g: &Globals, locals: &Locals<'_>, at: At, name: &String) -> Resu
     }
 }
 
-// The number of the data type of this name.
+/// The number of the data type of this name.
 pub fn data_type(g: &Globals, name: &Named) -> Result<u32, NameEnd>
     ensures value { IfOk result (λ n. spec.type_of g.now name.now.name ≡ Some n) }
     ensures refused { IfErr result (λ e. IsUnbound name.now.at (spec.type_of g.now name.now.name) e) }
@@ -71,7 +71,7 @@ pub fn data_type(g: &Globals, name: &Named) -> Result<u32, NameEnd>
     }
 }
 
-// The numbers of the constructor of this name.
+/// The numbers of the constructor of this name.
 pub fn ctor(g: &Globals, name: &Named) -> Result<CtorNumber, NameEnd>
     ensures value { IfOk result (λ c. spec.ctor_of g.now name.now.name ≡ Some c) }
     ensures refused { IfErr result (λ e. IsUnbound name.now.at (spec.ctor_of g.now name.now.name) e) }
@@ -82,7 +82,7 @@ pub fn ctor(g: &Globals, name: &Named) -> Result<CtorNumber, NameEnd>
     }
 }
 
-// The number of the next hole.
+/// The number of the next hole.
 pub fn hole(holes: &mut u32) -> Result<u32, NameEnd>
     ensures value { IfOk result (λ n. n ≡ holes.old) }
     ensures next { OnOk result (holes.new ≡ holes.old + 1) }
@@ -93,7 +93,7 @@ pub fn hole(holes: &mut u32) -> Result<u32, NameEnd>
     Ok(n)
 }
 
-// As many new holes.
+/// As many new holes.
 pub fn new_holes(alloc: Global, holes: &mut u32, count: u32) -> Result<Vec<Rc<Term>>, NameEnd>
     ensures value { IfOk result (λ hs. MakesHoles count holes.old (listed hs.items) holes.new) }
     ensures count { IfOk result (λ hs. length hs.items ≡ count) }
@@ -107,7 +107,7 @@ pub fn new_holes(alloc: Global, holes: &mut u32, count: u32) -> Result<Vec<Rc<Te
     Ok(parts)
 }
 
-// The form as a part of another.
+/// The form as a part of another.
 pub fn written(alloc: Global, node: TermNode) -> Result<Rc<Term>, NameEnd>
     ensures value { IfOk result (λ t. t.value ≡ tm_of node) }
     ensures refused { IfErr result (λ e. e ≡ end.NoMemory) }
@@ -119,7 +119,7 @@ pub fn written(alloc: Global, node: TermNode) -> Result<Rc<Term>, NameEnd>
     Ok(Rc::new(alloc, term)?)
 }
 
-// `count` times `suc` on `zero`.
+/// `count` times `suc` on `zero`.
 pub fn numeral(alloc: Global, count: u32) -> Result<TermNode, NameEnd>
     ensures value { IfOk result (λ n. tm_of n ≡ numeral_of count) }
     ensures refused { IfErr result (λ e. e ≡ end.NoMemory) }
