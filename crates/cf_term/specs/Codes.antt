@@ -8,6 +8,7 @@ use Rattle.cf_term.specs.declared.operations.Op.{Op}
 use Rattle.cf_term.specs.declared.operations.Op.TheVariants as op
 use Rattle.cf_term.specs.Core.{Tm, var, node, Tms, nil, cons, Head, Branch, MetaTyH, ValTyH, CompTyH, TyH, LetH, SigH, PairH, FstH, SndH, UnitTyH, UnitH, UnitRecH, BoolTyH, TrueH, FalseH, BoolRecH, NatTyH, ZeroH, SucH, NatRecH, ListTyH, NilH, ConsH, ListRecH, LiftH, QuoteH, VH, CH, IntTyH, ArrH, LetVH, OLamH, OAppH, FailH, SpliceH, MarkH, PiH, LamH, AppH, DataH, LitH, PrimH, LetRecH, ConH, CaseH, HoleH}
 
+-- a number for each operation
 abbrev pub op_number : Op → ℕ
 op_number op.Add = 0
 op_number op.Sub = 1
@@ -17,6 +18,7 @@ op_number op.Rem = 4
 op_number op.Eq = 5
 op_number op.Lt = 6
 
+-- the operation with a number
 abbrev pub op_at : ℕ → Op
 op_at n = cond (n == 0) op.Add (cond (n == 1) op.Sub (cond (n == 2) op.Mul (cond (n == 3) op.Div (cond (n == 4) op.Rem (cond (n == 5) op.Eq op.Lt)))))
 
@@ -29,10 +31,12 @@ op_back op.Rem = refl
 op_back op.Eq = refl
 op_back op.Lt = refl
 
+-- 1 for true
 abbrev pub bit : Bool → ℕ
 bit false = 0
 bit true = 1
 
+-- whether a number is 1
 abbrev pub bit_at : ℕ → Bool
 bit_at n = n == 1
 
@@ -40,10 +44,12 @@ pub bit_back : (b : Bool) → bit_at (bit b) ≡ b
 bit_back false = refl
 bit_back true = refl
 
+-- an integer as two numbers: whether it is below zero, and how far from 0 or from -1 it is
 abbrev pub int_numbers : ℤ → List ℕ
 int_numbers (pos n) = 0 ∷ n ∷ []
 int_numbers (negsuc n) = 1 ∷ n ∷ []
 
+-- the integer that two numbers stand for
 abbrev pub int_at : List ℕ → ℤ
 int_at [] = pos 0
 int_at (s ∷ []) = pos 0
@@ -53,10 +59,12 @@ pub int_back : (z : ℤ) → int_at (int_numbers z) ≡ z
 int_back (pos n) = refl
 int_back (negsuc n) = refl
 
+-- three numbers for each branch
 abbrev pub branch_numbers : List Branch → List ℕ
 branch_numbers [] = []
 branch_numbers (b ∷ bs) = b.type ∷ b.ctor ∷ b.names ∷ branch_numbers bs
 
+-- the branches that the numbers stand for, three for each
 abbrev pub branches_at : List ℕ → List Branch
 branches_at [] = []
 branches_at (d ∷ []) = []
@@ -140,11 +148,13 @@ at (n ∷ ns) (suc k) = at ns k
 abbrev pub bare_heads : List Head
 bare_heads = MetaTyH ∷ ValTyH ∷ CompTyH ∷ TyH ∷ LetH ∷ SigH ∷ PairH ∷ FstH ∷ SndH ∷ UnitTyH ∷ UnitH ∷ UnitRecH ∷ BoolTyH ∷ TrueH ∷ FalseH ∷ BoolRecH ∷ NatTyH ∷ ZeroH ∷ SucH ∷ NatRecH ∷ ListTyH ∷ NilH ∷ ConsH ∷ ListRecH ∷ LiftH ∷ QuoteH ∷ VH ∷ CH ∷ IntTyH ∷ ArrH ∷ LetVH ∷ OLamH ∷ OAppH ∷ FailH ∷ SpliceH ∷ MarkH ∷ []
 
+-- the head of a list with this number, counted from 0
 abbrev pub bare_head : List Head → ℕ → Head
 bare_head [] k = MetaTyH
 bare_head (h ∷ hs) zero = h
 bare_head (h ∷ hs) (suc k) = bare_head hs k
 
+-- the head that a number stands for, with its own numbers
 abbrev pub head_at : ℕ × List ℕ → Head
 head_at p = cond (p.0 == 36) (PiH (bit_at (at p.1 0))) (cond (p.0 == 37) (LamH (bit_at (at p.1 0))) (cond (p.0 == 38) (AppH (bit_at (at p.1 0))) (cond (p.0 == 39) (DataH (at p.1 0)) (cond (p.0 == 40) (LitH (int_at p.1)) (cond (p.0 == 41) (PrimH (op_at (at p.1 0))) (cond (p.0 == 42) (LetRecH (at p.1 0)) (cond (p.0 == 43) (ConH (at p.1 0) (at p.1 1) (at p.1 2)) (cond (p.0 == 44) (CaseH (branches_at p.1)) (cond (p.0 == 45) (HoleH (at p.1 0)) (bare_head bare_heads p.0))))))))))
 
@@ -196,24 +206,29 @@ head_back (ConH d c m) = refl
 head_back (CaseH bs) = ap CaseH (branches_back bs)
 head_back (HoleH k) = refl
 
+-- heads as they are stored: each as its number with its own numbers
 abbrev pub head_code : Coded Head
 head_code = code_by (ℕ × List ℕ) (coded× coded_ℕ (coded_list coded_ℕ)) (λ h. (head_number h, numbers h)) head_at head_back
 
+-- the number that is stored, 0 where there is none
 abbrev pub number : Gv → ℕ
 number gnil = 0
 number (gnum n) = n
 number (gcons a b) = 0
 
+-- the first of the two that are stored
 abbrev pub front : Gv → Gv
 front gnil = gnil
 front (gnum n) = gnil
 front (gcons a b) = a
 
+-- the second of the two that are stored
 abbrev pub back : Gv → Gv
 back gnil = gnil
 back (gnum n) = gnil
 back (gcons a b) = b
 
+-- 1 where two are stored
 abbrev pub is_pair : Gv → ℕ
 is_pair gnil = 0
 is_pair (gnum n) = 0
@@ -241,5 +256,6 @@ mutual
   codes_inj nil (cons u us) e = absurd (suc-ne-zero 0 (sym (ap is_pair e)))
   codes_inj (cons t ts) nil e = absurd (suc-ne-zero 0 (ap is_pair e))
 
+-- terms as they are stored: a variable as its number, a form as its head with its parts
 abbrev pub tm_code : Coded Tm
 tm_code = record { code = code; inj = code_inj }

@@ -37,9 +37,11 @@ pub record Part : Type 0 where
   pub binds : ℕ
   pub kept : Bool
 
+-- evaluated, under no variable
 abbrev pub here : Part
 here = record { binds = 0; kept = false }
 
+-- kept, under no variable
 abbrev pub later : Part
 later = record { binds = 0; kept = true }
 
@@ -56,6 +58,7 @@ abbrev pub group : (n m : ℕ) → List Part
 group n zero = under n ∷ []
 group n (suc m) = here ∷ under n ∷ group n m
 
+-- a part for each branch, under its names
 abbrev pub branch_parts : List Branch → List Part
 branch_parts [] = []
 branch_parts (b ∷ bs) = under b.names ∷ branch_parts bs
@@ -90,6 +93,7 @@ abbrev pub first_part : List Part → Part
 first_part [] = here
 first_part (p ∷ ps) = p
 
+-- the parts after it
 abbrev pub rest_parts : List Part → List Part
 rest_parts [] = []
 rest_parts (p ∷ ps) = ps

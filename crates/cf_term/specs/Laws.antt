@@ -32,10 +32,11 @@ RenamingIsSubstitution = (t : Tm) (f : ℕ → ℕ) → rename f t ≡ substitut
 abbrev pub SubstitutionOfShifted : Type 0
 SubstitutionOfShifted = (t u : Tm) (at : ℕ) → substituted (shifted t at 1) at u ≡ t
 
--- shifting by nothing changes nothing, and shifting twice at a place is shifting once
+-- shifting twice at a place is shifting once
 abbrev pub ShiftsAdd : Type 0
 ShiftsAdd = (t : Tm) (from m n : ℕ) → shifted (shifted t from m) from n ≡ shifted t from (m + n)
 
+-- shifting by nothing changes nothing
 abbrev pub ShiftByNothing : Type 0
 ShiftByNothing = (t : Tm) (from : ℕ) → shifted t from 0 ≡ t
 

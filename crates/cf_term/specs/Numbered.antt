@@ -8,16 +8,18 @@ pub record Placed : Type 0 where
   pub place : Part
   pub term : Tm
 
+-- the term with number i, and where it stands
 abbrev pub part_at : List Part → Tms → ℕ → Option Placed
 part_at ps nil i = None
 part_at ps (cons t ts) zero = Some (record { place = first_part ps; term = t })
 part_at ps (cons t ts) (suc i) = part_at (rest_parts ps) ts i
 
--- where the parts of a term stand, and the parts; a variable has none
+-- where the parts of a term stand; a variable has none
 abbrev pub places : Tm → List Part
 places (var x) = []
 places (node h ts) = parts h
 
+-- the parts of a term; a variable has none
 abbrev pub terms : Tm → Tms
 terms (var x) = nil
 terms (node h ts) = ts
@@ -26,6 +28,7 @@ terms (node h ts) = ts
 abbrev pub part_of : Tm → ℕ → Option Placed
 part_of t i = part_at (places t) (terms t) i
 
+-- how many terms there are
 abbrev pub length_of : Tms → ℕ
 length_of nil = 0
 length_of (cons t ts) = length_of ts + 1

@@ -56,6 +56,7 @@ form_of (node (CaseH bs) ts) = form.Case
 form_of (node (HoleH k) ts) = form.Hole
 form_of (node MarkH ts) = form.MetaTy
 
+-- the numbers of a form that are no parts
 abbrev pub own_of : Tm → Own
 own_of (var i) = own.Index i
 own_of (node (HoleH k) ts) = own.Index k
@@ -66,6 +67,7 @@ own_of (node (LetRecH n) ts) = own.Count n
 own_of (node (ConH d c m) ts) = own.Constructor d c m
 own_of (node _ ts) = own.Nothing
 
+-- the branches, where the form is a case
 abbrev pub branches_of : Tm → List Branch
 branches_of (node (CaseH bs) ts) = bs
 branches_of _ = []

@@ -19,6 +19,7 @@ abbrev mutual
   bare_all nil = nil
   bare_all (cons t ts) = cons (bare t) (bare_all ts)
 
+-- a head with its `implicit` flag false
 abbrev pub plain_head : Head → Head
 plain_head (PiH i) = PiH false
 plain_head (LamH i) = LamH false
@@ -41,11 +42,13 @@ abbrev pub root : Tm → Tm
 root (var i) = var i
 root (node h ts) = node (plain_head h) nil
 
+-- whether two lists of numbers are equal
 abbrev pub same_numbers : List ℕ → List ℕ → Bool
 same_numbers [] [] = true
 same_numbers (m ∷ ms) (n ∷ ns) = nat_eq m n && same_numbers ms ns
 same_numbers _ _ = false
 
+-- whether two heads are equal
 abbrev pub same_head : Head → Head → Bool
 same_head g h = nat_eq (head_number g) (head_number h) && same_numbers (numbers g) (numbers h)
 

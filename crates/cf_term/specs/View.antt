@@ -13,18 +13,22 @@ abbrev pub listed : {Z : Type 0} → List (Rc Tm Z) → Tms → Tms
 listed [] us = us
 listed (t ∷ ts) us = cons t.value (listed ts us)
 
+-- the type and the body of each definition, before other terms
 abbrev pub definitions : List Definition → Tms → Tms
 definitions [] us = us
 definitions (d ∷ ds) us = cons d.ty.value (cons d.value.value (definitions ds us))
 
+-- the branches without their bodies
 abbrev pub heads : List (branch.Branch) → List Branch
 heads [] = []
 heads (b ∷ bs) = record { type = b.data_type; ctor = b.ctor; names = b.names } ∷ heads bs
 
+-- the bodies of the branches
 abbrev pub bodies : List (branch.Branch) → Tms
 bodies [] = nil
 bodies (b ∷ bs) = cons b.body.value (bodies bs)
 
+-- the tree of a form
 abbrev pub tm_of : TermNode → Tm
 tm_of (form.Var n) = var n
 tm_of form.MetaTy = MetaTy
