@@ -11,6 +11,7 @@ use Rattle.cf_core_text.specs.declared.pieces.Piece.{Piece}
 use Rattle.cf_core_text.specs.declared.pieces.Piece.TheVariants as piece
 use Rattle.cf_core_text.specs.Pieces.{Printed, placed, printed, defining}
 
+-- the tokens of an item
 abbrev pub item_pieces : Item → List Piece
 item_pieces (item.Token p) = p ∷ []
 item_pieces (item.Part p s t) = placed p (printed s.globals s.depth t.now.value)

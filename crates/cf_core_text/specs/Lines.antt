@@ -44,17 +44,19 @@ line t g (DataC d) = data_line t g d
 line t g (MetaC x a b) = piece.Word keyword.Meta ∷ definition g a b
 line t g (ObjectC x a b) = definition g a b
 
--- how many data types, and how many globals, stand above what follows a declaration
+-- how many data types stand above what follows a declaration
 abbrev pub types_below : ℕ → Declaration → ℕ
 types_below t (DataC d) = suc t
 types_below t (MetaC x a b) = t
 types_below t (ObjectC x a b) = t
 
+-- how many globals stand above what follows a declaration
 abbrev pub globals_below : ℕ → Declaration → ℕ
 globals_below g (DataC d) = g
 globals_below g (MetaC x a b) = suc g
 globals_below g (ObjectC x a b) = suc g
 
+-- a line for each declaration, below t data types and g globals
 abbrev pub lines : (t g : ℕ) → List Declaration → List (List Piece)
 lines t g [] = []
 lines t g (d ∷ ds) = line t g d ∷ lines (types_below t d) (globals_below g d) ds

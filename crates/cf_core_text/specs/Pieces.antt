@@ -18,9 +18,11 @@ pub record Printed : Type 0 where
   pub pieces : List Piece
   pub number : Option ℕ
 
+-- a printed form that is no Nat literal
 abbrev pub shown : Place → List Piece → Printed
 shown c ps = record { class = c; pieces = ps; number = None }
 
+-- a Nat literal
 abbrev pub literal : ℕ → Printed
 literal n = record { class = place.Atom; pieces = piece.NatLit n ∷ []; number = Some n }
 
@@ -32,6 +34,7 @@ stands place.Application place.Application = true
 stands place.Chain place.Chain = true
 stands p c = false
 
+-- in parentheses
 abbrev pub enclosed : List Piece → List Piece
 enclosed ps = piece.Mark sign.OpenParen ∷ (ps ++ piece.Mark sign.CloseParen ∷ [])
 
@@ -53,6 +56,7 @@ abbrev pub atoms : List Printed → List Piece
 atoms [] = []
 atoms (f ∷ fs) = placed place.Atom f ++ atoms fs
 
+-- a form that is a word and atoms; the word alone is an atom
 abbrev pub worded : Keyword → List Printed → Printed
 worded w [] = shown place.Atom (piece.Word w ∷ [])
 worded w fs = shown place.Term (piece.Word w ∷ atoms fs)
@@ -108,6 +112,7 @@ abbrev pub arms : (g d : ℕ) → List Branch → List Printed → List Piece
 arms g d (b ∷ bs) (t ∷ ts) = arm g d b t (more_arms g d bs ts)
 arms g d _ _ = piece.Mark sign.CloseBrace ∷ []
 
+-- the word of an operation
 abbrev pub op_word : Op → Keyword
 op_word op.Add = keyword.Add
 op_word op.Sub = keyword.Sub
@@ -175,6 +180,7 @@ written g d (HoleH k) [] = shown place.Term (piece.Hole k ∷ [])
 written g d MarkH (t ∷ []) = t
 written g d _ _ = shown place.Term []
 
+-- a form with its parts, which are printed before
 abbrev pub form : (g d : ℕ) → Head → List Printed → Printed
 form g d h fs = elim (word_of h) [ Some w ↦ worded w fs | None ↦ written g d h fs ]
 

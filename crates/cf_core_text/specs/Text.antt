@@ -67,10 +67,12 @@ closes (piece.Mark sign.Greater) = true
 closes (piece.Mark sign.Comma) = true
 closes _ = false
 
+-- whether it is `)`
 abbrev pub is_close_paren : Piece → Bool
 is_close_paren (piece.Mark sign.CloseParen) = true
 is_close_paren _ = false
 
+-- whether it is `:=`
 abbrev pub is_becomes : Piece → Bool
 is_becomes (piece.Mark sign.Becomes) = true
 is_becomes _ = false
@@ -81,6 +83,7 @@ tight p (piece.Mark sign.Dot) = is_close_paren p
 tight p (piece.Mark sign.Semicolon) = not (is_becomes p)
 tight p q = opens p || closes q
 
+-- the text between two neighbours
 abbrev pub gap : (p q : Piece) → List ℕ
 gap p q = elim (tight p q) [ true ↦ [] | false ↦ codes " " ]
 

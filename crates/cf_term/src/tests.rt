@@ -331,6 +331,26 @@ fn groups(rt: HostRuntime) -> Result<(), Fail> {
     Ok(())
 }
 
+// each branch is under its names, and the replaced variable is past them
+#[test]
+fn branches(rt: HostRuntime) -> Result<(), Fail> {
+    let alloc = rt.alloc();
+    let (t, want) = (cases(alloc, 3, &[3, 3, 4])?, cases(alloc, 13, &[13, 3, 4])?);
+    assert!(rt; shifts(alloc, t, 3, want));
+    let (t, want) = (cases(alloc, 3, &[4, 4, 4])?, cases(alloc, 7, &[3, 8, 4])?);
+    assert!(rt; puts(alloc, t, 3, want));
+    Ok(())
+}
+
+#[test]
+fn counts_of_lists_of_parts(rt: HostRuntime) -> Result<(), Fail> {
+    let alloc = rt.alloc();
+    assert!(rt; counts(alloc, made(alloc, 2, 3)?, 3, 2));
+    assert!(rt; counts(alloc, group(alloc, 3, 4, 5)?, 6, 2));
+    assert!(rt; counts(alloc, cases(alloc, 3, &[3, 4, 5])?, 6, 2));
+    Ok(())
+}
+
 // whether the two forms are the same
 fn agree(t: TermNode, u: TermNode) -> bool {
     same(&written(t), &written(u))
