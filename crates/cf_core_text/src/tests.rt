@@ -109,10 +109,16 @@ const FORMS: [(&str, &str); 68] = [
     ("? -5 app", "(?7) -5"),
     ("x0 1 @ x0 app", "(f @ 1) f"),
     ("x0 Flag app x0 x0 app app", "f Flag[] (f f)"),
-    ("Nat Unit Sig x0 unit pair", "pair (Sig (_0 : Nat), Unit) f unit"),
+    (
+        "Nat Unit Sig x0 unit pair",
+        "pair (Sig (_0 : Nat), Unit) f unit",
+    ),
     ("x0 fst", "fst f"),
     ("x0 fst snd", "snd (fst f)"),
-    ("Unit Nat \\ x0 unit unitrec", "unitrec (\\(_0 : Unit). Nat) f unit"),
+    (
+        "Unit Nat \\ x0 unit unitrec",
+        "unitrec (\\(_0 : Unit). Nat) f unit",
+    ),
     ("x0 zero x0 true boolrec", "boolrec f #0 f true"),
     ("x0 x0 x0 suc zero suc natrec", "natrec f f (suc f) #1"),
     ("Nat List", "List Nat"),
