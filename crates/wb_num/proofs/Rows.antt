@@ -1,10 +1,12 @@
 -- What the rows of the table are, by ranges of opcodes.
-use Rattle.std.proofs.Common.{◌≡◌, ℕ, ◌^◌, ◌<◌, ◌≤◌, Bool, true, false, arith, refl, ap, subst, ◌∙◌}
+use Rattle.std.proofs.Common.{◌≡◌, ℕ, ◌^◌, ◌<◌, ◌≤◌, Bool, true, false, arith, refl, sym, ap, subst, ◌∙◌}
 use Rattle.std.specs.Prelude.{◌==◌, ◌||◌}
 use Rattle.std.proofs.lemmas.Bool.Decides.{nat_tests}
 use Rattle.wb_syntax.specs.Table.{row_at, between}
 use Rattle.wb_syntax.specs.Numbers.{Numeric, Yields, ByZero, TooLarge, binary}
-use Rattle.wb_num.specs.Answers.{takes_one, takes_two, operand_bits, IsOperand}
+use Rattle.wb_syntax.specs.declared.syntax.NumType.TheVariants.{I32, I64}
+use Rattle.wb_syntax.specs.Table.{Row, Takes1, Takes2}
+use Rattle.wb_num.specs.Answers.{takes_one, takes_two, operand_bits, result_bits, IsOperand, IsResult}
 use Rattle.wb_num.proofs.Between.{holds_between}
 
 same_bits : (k : ℕ) → (k == 32) ≡ true → k ≡ 32
@@ -92,3 +94,26 @@ wide_compared n a from to h = below_wide _ a (holds_between (λ k. operand_bits 
 pub wide_computed : (n a : ℕ) → 124 ≤ n → n ≤ 138 → a < 2 ^ 64 → IsOperand n a
 unfolding row_at
 wide_computed n a from to h = below_wide _ a (holds_between (λ k. operand_bits (row_at k) == 64) 15 124 n refl from (omega arith)) h
+
+-- what fits 32 bits fits each result
+fits_row : (row : Row) (n : ℕ) → n < 2 ^ 32 → n < 2 ^ result_bits row
+fits_row (Takes1 t I32 op) n h = h
+fits_row (Takes1 t I64 op) n h = omega arith
+fits_row (Takes2 t I32 op) n h = h
+fits_row (Takes2 t I64 op) n h = omega arith
+fits_row _ n h = omega arith
+
+pub small_fits : (op n : ℕ) → n < 2 ^ 32 → IsResult op n
+small_fits op n h = fits_row (row_at op) n h
+
+same_64 : (k : ℕ) → (k == 64) ≡ true → k ≡ 64
+same_64 k h = grind (arith, nat_tests)
+
+wide_result_bits : (n : ℕ) → 124 ≤ n → n ≤ 138 → result_bits (row_at n) ≡ 64
+unfolding row_at
+wide_result_bits n from to =
+    let h : (result_bits (row_at n) == 64) ≡ true = holds_between (λ k. result_bits (row_at k) == 64) 15 124 n refl from (omega arith) in
+    same_64 _ h
+
+pub wide_fits : (op n : ℕ) → 124 ≤ op → op ≤ 138 → n < 2 ^ 64 → IsResult op n
+wide_fits op n from to h = subst (λ (k : ℕ). n < 2 ^ k) (sym (wide_result_bits op from to)) h

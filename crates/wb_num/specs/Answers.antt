@@ -21,6 +21,12 @@ operand_bits (Takes1 t r op) = bits_of t
 operand_bits (Takes2 t r op) = bits_of t
 operand_bits _ = 64
 
+-- the bits of a result
+abbrev pub result_bits : Row → ℕ
+result_bits (Takes1 t r op) = bits_of r
+result_bits (Takes2 t r op) = bits_of r
+result_bits _ = 64
+
 -- an operation of the profile with one operand
 abbrev pub IsUnaryOperation : ℕ → Type 0
 IsUnaryOperation opcode = IsTrue (takes_one (row_at opcode))
@@ -32,6 +38,10 @@ IsBinaryOperation opcode = IsTrue (takes_two (row_at opcode))
 -- a word of the type that the operation takes
 abbrev pub IsOperand : ℕ → ℕ → Type 0
 IsOperand opcode n = n < 2 ^ operand_bits (row_at opcode)
+
+-- a word of the type that the operation gives
+abbrev pub IsResult : ℕ → ℕ → Type 0
+IsResult opcode n = n < 2 ^ result_bits (row_at opcode)
 
 -- the number, or the trap
 abbrev pub number_or_trap : Result ℕ NumTrap → Numeric

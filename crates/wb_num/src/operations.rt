@@ -1,11 +1,19 @@
 //! Operations of both types, by opcode.
-ghost use Rattle.std.specs.Prelude.{◌≡◌};
-ghost use Rattle.wb_syntax.specs.Numbers.{unary};
-ghost use Rattle.wb_num.specs.Answers.{IsUnaryOperation, IsBinaryOperation, IsOperand, AnswersNumber};
+ghost use Rattle.std.specs.Prelude.{◌≡◌, ◌<◌, IfOk};
+ghost use Rattle.wb_syntax.specs.Numbers.{word_of, unary};
+ghost use Rattle.wb_num.specs.Answers.{IsUnaryOperation, IsBinaryOperation, IsOperand, IsResult, AnswersNumber};
 
 use crate::i32_operations::{compare_i32, compute_i32};
 use crate::i64_operations::{compare_i64, compute_i64};
 use crate::trap::NumTrap;
+
+// A test as a number.
+fn flag(test: bool) -> u64
+    ensures number { result ≡ word_of test }
+    ensures fits { result < 2 }
+{
+    u64::from(test)
+}
 
 /// What the operation with this opcode gives for its two operands, the first one below the second on the stack.
 ///
@@ -20,16 +28,20 @@ pub fn binary(op: u8, a: u64, b: u64) -> Result<u64, NumTrap>
     requires operation { IsBinaryOperation op }
     requires first { IsOperand op a }
     requires second { IsOperand op b }
-    ensures { AnswersNumber op a b result }
+    ensures number { AnswersNumber op a b result }
+    ensures fits { IfOk result (λ n. IsResult op n) }
 {
     match op {
-        0x46..=0x4F => Ok(u64::from(compare_i32(op, a as u32, b as u32))),
-        0x51..=0x5A => Ok(u64::from(compare_i64(op, a, b))),
+        0x46..=0x4F => Ok(flag(compare_i32(op, a as u32, b as u32))),
+        0x51..=0x5A => Ok(flag(compare_i64(op, a, b))),
         0x6A..=0x78 => {
             let number = compute_i32(op, a as u32, b as u32)?;
             Ok(u64::from(number))
         }
-        _ => compute_i64(op, a, b),
+        _ => {
+            let number = compute_i64(op, a, b)?;
+            Ok(number)
+        }
     }
 }
 
@@ -41,7 +53,8 @@ pub fn binary(op: u8, a: u64, b: u64) -> Result<u64, NumTrap>
 pub fn unary(op: u8, a: u64) -> u64
     requires operation { IsUnaryOperation op }
     requires operand { IsOperand op a }
-    ensures { result ≡ unary op a }
+    ensures number { result ≡ unary op a }
+    ensures fits { IsResult op result }
 {
     match op {
         0x45 => u64::from(a == 0), // i32.eqz
