@@ -1,0 +1,2 @@
+-- what the rows of the table are
+pub mod Opcodes

@@ -1,0 +1,70 @@
+-- How what an instruction does to a state is a step of the definition of execution.
+use Rattle.std.specs.Prelude.{◌≡◌, ℕ, ◌/◌, List, length, Option, Some, None}
+use Rattle.wb_syntax.specs.Syntax.{Code}
+use Rattle.wb_plain.specs.Syntax.{Instr, Br, BrIf, BrTable, Return, Call, Module}
+use Rattle.wb_syntax.specs.Execute.{TheStore, Config, Move, Traps as Trapped, NoRule, page, goes_at, plain}
+use Rattle.wb_state.specs.Stack.{IsOver}
+use Rattle.wb_plain.specs.Effects.{State, Leaves, kind_of, SameStore, IsOverfull}
+use Rattle.wb_plain.specs.declared.outcome.Outcome.{Outcome}
+use Rattle.wb_plain.specs.declared.outcome.Outcome.TheVariants.{Goes, Full, Traps, Stuck}
+
+-- not a jump, a return or a call
+abbrev pub IsStraight : Instr → Type 0
+IsStraight (Br l) = ⊥
+IsStraight (BrIf l) = ⊥
+IsStraight (BrTable ls l) = ⊥
+IsStraight Return = ⊥
+IsStraight (Call f) = ⊥
+IsStraight _ = Unit {0}
+
+-- the store of a state
+abbrev pub store_of : State → TheStore
+store_of s = record { memory = s.memory; globals = s.globals }
+
+-- the configuration whose innermost frame has the locals of a state, and whose store is that of the state
+abbrev pub showing : Config → State → Config
+showing c s = record c { frame = record c.frame { locals = s.locals.current }; store = store_of s }
+
+-- the pages of a memory, or none
+abbrev pub pages_of : Option (List ℕ) → ℕ
+pages_of None = 0
+pages_of (Some memory) = length memory / page
+
+-- the step that the definition makes at an instruction, in a configuration with the locals and the store of a state, on
+-- the words above the floor, before this code; memory has room for its size alone
+abbrev pub step_of : Module → Config → Code → Instr → State → Move
+step_of m c rest i s = plain m (pages_of s.memory) (showing c s) s.operands.above rest i
+
+-- the step to a state
+abbrev pub move_to : Config → Code → State → Move
+move_to c rest s = goes_at (showing c s) s.operands.above rest
+
+-- the step is to a state with more words than there may be
+abbrev pub GoesOver : Config → Code → Move → Type 0
+GoesOver c rest move = (s : State) × (move ≡ move_to c rest s) × IsOver s.operands
+
+-- a step is this one
+abbrev pub Follows : Outcome → Config → Code → Move → (old new : State) → Type 0
+Follows Goes c rest move old new = move ≡ move_to c rest new
+Follows Full c rest move old new = GoesOver c rest move × SameStore old new
+Follows (Traps k) c rest move old new = (move ≡ Trapped (kind_of k) (store_of old)) × SameStore old new
+Follows Stuck c rest move old new = (move ≡ NoRule) × SameStore old new
+
+-- the length of a memory, where there is one
+abbrev pub length_of : Option (List ℕ) → Option ℕ
+length_of None = None
+length_of (Some memory) = Some (length memory)
+
+-- what no such instruction changes: the words below the floor, how many there may be, the locals of the frames around,
+-- how many locals there are, and the size of the memory
+pub record Keeps (old new : State) : Type 0 where
+  pub below : new.operands.below ≡ old.operands.below
+  pub most : new.operands.most ≡ old.operands.most
+  pub outer : new.locals.outer ≡ old.locals.outer
+  pub locals : length new.locals.current ≡ length old.locals.current
+  pub size : length_of new.memory ≡ length_of old.memory
+
+-- that is so where a step was made
+abbrev pub KeepsWhereItGoes : Outcome → (old new : State) → Type 0
+KeepsWhereItGoes Goes old new = Keeps old new
+KeepsWhereItGoes _ old new = Unit {0}

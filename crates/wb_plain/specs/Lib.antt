@@ -1,0 +1,6 @@
+-- What the public contract cites.
+pub mod Effects
+pub mod Follows
+pub mod Syntax
+-- What the contracts of private functions cite.
+pub mod Rows

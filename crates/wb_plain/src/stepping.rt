@@ -1,0 +1,51 @@
+//! One instruction that is no jump.
+
+ghost use Rattle.wb_syntax.specs.Syntax.{Code};
+ghost use Rattle.wb_plain.specs.Syntax.{Module};
+ghost use Rattle.wb_syntax.specs.Execute.{Config};
+ghost use Rattle.wb_plain.specs.Effects.{Ends, effect};
+ghost use Rattle.wb_plain.specs.Follows.{IsStraight, step_of, Follows, KeepsWhereItGoes};
+
+use crate::accesses::{grow, load, size, store};
+use crate::numeric::{binary, drop_word, put, select, unary};
+use crate::outcome::{Outcome, TrapKind};
+use crate::variables::{global_get, global_set, local_get, local_set, local_tee};
+use wb_state::{State, Word};
+use wb_syntax::Instr;
+
+/// Carries out an instruction.
+fn carry_out(state: &mut State, instr: &Instr) -> Outcome
+    ensures { Ends result (effect instr.now state.old) state.old state.new }
+{
+    match instr {
+        Instr::I32Const(number) => put(state, Word::I32(number.cast_unsigned())),
+        Instr::I64Const(number) => put(state, Word::I64(number.cast_unsigned())),
+        Instr::Unary(op) => unary(state, *op),
+        Instr::Binary(op) => binary(state, *op),
+        Instr::Drop => drop_word(state),
+        Instr::Select => select(state),
+        Instr::LocalGet(index) => local_get(state, *index),
+        Instr::LocalSet(index) => local_set(state, *index),
+        Instr::LocalTee(index) => local_tee(state, *index),
+        Instr::GlobalGet(index) => global_get(state, *index),
+        Instr::GlobalSet(index) => global_set(state, *index),
+        Instr::Load(op, _, offset) => load(state, *op, *offset),
+        Instr::Store(op, _, offset) => store(state, *op, *offset),
+        Instr::MemorySize => size(state),
+        Instr::MemoryGrow => grow(state),
+        Instr::Nop => Outcome::Goes,
+        Instr::Unreachable => Outcome::Traps(TrapKind::Unreachable),
+        _ => Outcome::Stuck,
+    }
+}
+
+/// Carries out an instruction that is no jump, return or call.
+///
+/// Of `block`, `loop`, `if`, `else` and `end`, which stand in nested code as its own forms, the definition has no step.
+pub fn step(state: &mut State, instr: &Instr) -> Outcome
+    requires { IsStraight instr.now }
+    ensures follows { (m : Module) (c : Config) (rest : Code) → Follows result c rest (step_of m c rest instr.now state.old) state.old state.new }
+    ensures keeps { KeepsWhereItGoes result state.old state.new }
+{
+    carry_out(state, instr)
+}

@@ -1,0 +1,67 @@
+//! Locals and globals.
+
+ghost use Rattle.std.specs.Prelude.{slice_get};
+ghost use Rattle.wb_plain.specs.Effects.{Ends, get, local_set, local_tee, global_set};
+
+use crate::numeric::put;
+use crate::outcome::Outcome;
+use wb_state::State;
+
+/// Puts the word of a local on top.
+pub fn local_get(state: &mut State, index: u32) -> Outcome
+    ensures { Ends result (get state.old (slice_get state.old.locals.current index)) state.old state.new }
+{
+    match state.locals.get(index) {
+        None => Outcome::Stuck,
+        Some(word) => put(state, word),
+    }
+}
+
+/// Sets a local to the topmost word.
+pub fn local_set(state: &mut State, index: u32) -> Outcome
+    ensures { Ends result (local_set index state.old state.old.operands.above) state.old state.new }
+{
+    let Some(word) = state.operands.take_any() else {
+        return Outcome::Stuck;
+    };
+    if !state.locals.set(index, word) {
+        return Outcome::Stuck;
+    }
+    Outcome::Goes
+}
+
+/// Sets a local to the topmost word, which stays.
+pub fn local_tee(state: &mut State, index: u32) -> Outcome
+    ensures { Ends result (local_tee index state.old state.old.operands.above) state.old state.new }
+{
+    let Some(word) = state.operands.take_any() else {
+        return Outcome::Stuck;
+    };
+    if !state.locals.set(index, word) {
+        return Outcome::Stuck;
+    }
+    put(state, word)
+}
+
+/// Puts the word of a global on top.
+pub fn global_get(state: &mut State, index: u32) -> Outcome
+    ensures { Ends result (get state.old (slice_get state.old.globals index)) state.old state.new }
+{
+    match state.globals.get(index) {
+        None => Outcome::Stuck,
+        Some(word) => put(state, word),
+    }
+}
+
+/// Sets a global to the topmost word.
+pub fn global_set(state: &mut State, index: u32) -> Outcome
+    ensures { Ends result (global_set index state.old state.old.operands.above) state.old state.new }
+{
+    let Some(word) = state.operands.take_any() else {
+        return Outcome::Stuck;
+    };
+    if !state.globals.set(index, word) {
+        return Outcome::Stuck;
+    }
+    Outcome::Goes
+}
