@@ -1,5 +1,5 @@
 -- What an instruction does to a state is the step of the definition of execution.
-use Rattle.std.proofs.Common.{◌≡◌, ℕ, zero, suc, ◌+◌, ◌-◌, ◌*◌, ◌/◌, ◌%◌, ◌<◌, ◌≤◌, ◌^◌, List, [], ◌∷◌, ◌++◌, length, take, drop, replicate, arith, refl, sym, ap, ◌∙◌, subst, length-append, length-drop}
+use Rattle.std.proofs.Common.{◌≡◌, ℕ, zero, suc, ◌+◌, ◌-◌, ◌*◌, ◌/◌, ◌<◌, ◌≤◌, ◌^◌, List, [], ◌∷◌, ◌++◌, length, take, drop, replicate, arith, refl, sym, ap, ◌∙◌, subst, length-append, length-drop}
 use Rattle.std.specs.Prelude.{Bool, true, false, ◌==◌, nat_le, Option, Some, None, slice_get, slice_set}
 use Rattle.std.proofs.lemmas.Bool.{leb-true, le-leb, lt-leb}
 use Rattle.std.proofs.lemmas.Bool.Decides.{nat_tests}
@@ -7,14 +7,12 @@ use Rattle.std.proofs.lemmas.List.{length-set, length-take-le, append-nil}
 use Rattle.wb_syntax.specs.Syntax.{Code, Nothing}
 use Rattle.wb_syntax.specs.Table.{Row, Loads, Stores, Takes1, Takes2, row_at}
 use Rattle.wb_syntax.specs.Numbers.{Numeric, Yields, ByZero, TooLarge, unary_of, binary_of}
-use Rattle.wb_syntax.specs.Execute.{Word, word, Frame, Config, TheStore, Move, Traps as Trapped, NoRule, OutOfBounds, same_type, pop, pop_any, when, where_some, number_of, bytes_of, overwrite, extended, page, goes_at, gives, run_unary, run_binary, set_local, set_global, run_load, run_store, with_memory, grow, plain}
+use Rattle.wb_syntax.specs.Execute.{Word, word, Config, Move, Traps as Trapped, NoRule, OutOfBounds, same_type, pop, pop_any, when, where_some, number_of, bytes_of, overwrite, extended, page, goes_at, gives, run_unary, run_binary, set_local, set_global, run_load, run_store, with_memory, grow}
 use Rattle.wb_state.specs.Words.{holds, replaced}
-use Rattle.wb_state.specs.Stack.{Stack, Taken, put, taken, take_from, take_word, with_above}
-use Rattle.wb_state.specs.Frames.{with_current}
-use Rattle.wb_state.specs.Bytes.{read_at, written_at}
-use Rattle.wb_plain.specs.Syntax.{NumType, I32, I64, Instr, Unreachable, Nop, Block, Loop, If, Else, End, Br, BrIf, BrTable, Return, Call, Drop, Select, LocalGet, LocalSet, LocalTee, GlobalGet, GlobalSet, Load, Store, MemorySize, MemoryGrow, I32Const, I64Const, Unary, Binary, Module}
+use Rattle.wb_state.specs.Stack.{Stack, Taken, taken, take_from, take_word, with_above}
+use Rattle.wb_plain.specs.Syntax.{NumType, I32, Instr, Unreachable, Nop, Br, BrIf, BrTable, Return, Call, Drop, Select, LocalGet, LocalSet, LocalTee, GlobalGet, GlobalSet, Load, Store, MemorySize, MemoryGrow, I32Const, I64Const, Unary, Binary, Module}
 use Rattle.wb_plain.specs.Rows.{Operation, Loading, Storing, unary_types, binary_types, load_types, store_types}
-use Rattle.wb_plain.specs.Effects.{State, Effect, Leaves, Trapping, Lost, with_operands, puts, yields, unary_taken, unary_typed, binary_second, binary_first, binary_typed, drop_from, select_one, select_from, select_taken, get, set_locals, local_set, local_tee, set_globals, global_set, load_read, load_taken, load_in, load_typed, store_written, store_based, store_taken, store_in, store_typed, size_in, grown, grow_taken, grow_in, effect, kind_of, SameStore, IsOverfull, Ends}
+use Rattle.wb_plain.specs.Effects.{State, Effect, Leaves, Trapping, Lost, with_operands, yields, unary_taken, unary_typed, binary_second, binary_first, binary_typed, drop_from, select_one, select_from, select_taken, get, set_locals, local_set, local_tee, set_globals, global_set, load_read, load_taken, load_in, load_typed, store_written, store_based, store_taken, store_in, store_typed, size_in, grown, grow_taken, grow_in, effect, IsOverfull, Ends}
 use Rattle.wb_plain.specs.Follows.{IsStraight, store_of, showing, pages_of, length_of, step_of, move_to, GoesOver, Follows, Keeps, KeepsWhereItGoes}
 use Rattle.wb_plain.specs.declared.outcome.Outcome.{Outcome}
 use Rattle.wb_plain.specs.declared.outcome.Outcome.TheVariants.{Goes, Full, Traps, Stuck}
@@ -35,7 +33,7 @@ abbrev pub Means : Config → Code → State → Move → Effect → Type 0
 Means c rest s move e = (move ≡ as_move c rest s e) × KeptBy s e
 
 kept_above : (s : State) (ws : List Word) → Keeps s (with_operands s (with_above s.operands ws))
-kept_above s ws = record { below = refl; most = refl; outer = refl; locals = refl; size = refl }
+kept_above s ws = record { below = refl; most = refl; room = refl; outer = refl; local_room = refl; locals = refl; size = refl }
 
 -- ---- a word is taken
 
@@ -58,16 +56,16 @@ unary_means : (c : Config) (rest : Code) (s : State) (row : Row) → Means c res
 unary_means c rest s (Takes1 t r op) =
     let o : Operation = record { takes = t; gives = r } in
     pop_means c rest s t s.operands s.operands.above (λ a vs. goes_at (showing c s) (word r (unary_of t op a) ∷ vs) rest) (unary_taken (Takes1 t r op) o s)
-        (λ n vs. (refl, kept_above s (word r (unary_of t op n) ∷ vs))) (refl, tt)
+    (λ n vs. (refl, kept_above s (word r (unary_of t op n) ∷ vs))) (refl, tt)
 unary_means c rest s _ = (refl, tt)
 
 binary_means : (c : Config) (rest : Code) (s : State) (row : Row) → Means c rest s (run_binary (showing c s) s.operands.above rest row) (binary_typed row s (binary_types row))
 binary_means c rest s (Takes2 t r op) =
     let o : Operation = record { takes = t; gives = r } in
     pop_means c rest s t s.operands s.operands.above (λ b vs. pop t vs (λ a us. gives (showing c s) us rest r (binary_of t op a b))) (binary_first (Takes2 t r op) o s)
-        (λ b vs. pop_means c rest s t (with_above s.operands vs) vs (λ a us. gives (showing c s) us rest r (binary_of t op a b)) (binary_second (Takes2 t r op) o b s)
-            (λ a us. yields_means c rest s us r (binary_of t op a b)) (refl, tt))
-        (refl, tt)
+    (λ b vs. pop_means c rest s t (with_above s.operands vs) vs (λ a us. gives (showing c s) us rest r (binary_of t op a b)) (binary_second (Takes2 t r op) o b s)
+    (λ a us. yields_means c rest s us r (binary_of t op a b)) (refl, tt))
+    (refl, tt)
 binary_means c rest s _ = (refl, tt)
 
 -- ---- drop and select
@@ -89,7 +87,7 @@ select_two c rest s n us (b ∷ a ∷ ts) = select_if c rest s (same_type a.type
 select_means : (c : Config) (rest : Code) (s : State) → Means c rest s (pop I32 s.operands.above (λ n vs. pop_any vs (λ b us. pop_any us (λ a ts. when (same_type a.type b.type) (elim (n == 0) [ true ↦ goes_at (showing c s) (b ∷ ts) rest | false ↦ goes_at (showing c s) (a ∷ ts) rest ]))))) (select_taken s (take_word I32 s.operands))
 select_means c rest s =
     pop_means c rest s I32 s.operands s.operands.above (λ n vs. pop_any vs (λ b us. pop_any us (λ a ts. when (same_type a.type b.type) (elim (n == 0) [ true ↦ goes_at (showing c s) (b ∷ ts) rest | false ↦ goes_at (showing c s) (a ∷ ts) rest ])))) (select_taken s)
-        (λ n vs. select_two c rest s n vs vs) (refl, tt)
+    (λ n vs. select_two c rest s n vs vs) (refl, tt)
 
 -- ---- locals and globals
 
@@ -99,7 +97,7 @@ get_means c rest s (Some w) = (refl, kept_above s (w ∷ s.operands.above))
 
 -- a local is set, and these words are left above the floor
 set_local_if : (c : Config) (rest : Code) (s : State) (b : Bool) (ls ws : List Word) → length ls ≡ length s.locals.current → Means c rest s (when b (goes_at (record (showing c s) { frame = record (showing c s).frame { locals = ls } }) ws rest)) (set_locals (with_operands s (with_above s.operands ws)) (elim b [ true ↦ Some ls | false ↦ None ]))
-set_local_if c rest s true ls ws l = (refl, record { below = refl; most = refl; outer = refl; locals = l; size = refl })
+set_local_if c rest s true ls ws l = (refl, record { below = refl; most = refl; room = refl; outer = refl; local_room = refl; locals = l; size = refl })
 set_local_if c rest s false ls ws l = (refl, tt)
 
 set_local_at : (c : Config) (rest : Code) (s : State) (o : Option Word) (w : Word) (ls ws : List Word) → length ls ≡ length s.locals.current → Means c rest s (where_some o (λ v. when (same_type v.type w.type) (goes_at (record (showing c s) { frame = record (showing c s).frame { locals = ls } }) ws rest))) (set_locals (with_operands s (with_above s.operands ws)) (elim (holds w.type o) [ true ↦ Some ls | false ↦ None ]))
@@ -118,7 +116,7 @@ local_tee_means c rest s x [] = (refl, tt)
 local_tee_means c rest s x (w ∷ ws) = set_local_means c rest s x w s.operands.above
 
 set_global_if : (c : Config) (rest : Code) (s : State) (b : Bool) (gs ws : List Word) → Means c rest s (when b (goes_at (record (showing c s) { store = record (showing c s).store { globals = gs } }) ws rest)) (set_globals (with_operands s (with_above s.operands ws)) (elim b [ true ↦ Some gs | false ↦ None ]))
-set_global_if c rest s true gs ws = (refl, record { below = refl; most = refl; outer = refl; locals = refl; size = refl })
+set_global_if c rest s true gs ws = (refl, record { below = refl; most = refl; room = refl; outer = refl; local_room = refl; locals = refl; size = refl })
 set_global_if c rest s false gs ws = (refl, tt)
 
 set_global_at : (c : Config) (rest : Code) (s : State) (o : Option Word) (w : Word) (gs ws : List Word) → Means c rest s (where_some o (λ v. when (same_type v.type w.type) (goes_at (record (showing c s) { store = record (showing c s).store { globals = gs } }) ws rest))) (set_globals (with_operands s (with_above s.operands ws)) (elim (holds w.type o) [ true ↦ Some gs | false ↦ None ]))
@@ -144,7 +142,7 @@ load_at : (c : Config) (rest : Code) (s : State) (l : Loading) (offset : ℕ) (o
 load_at c rest s l offset None = (refl, tt)
 load_at c rest s l offset (Some memory) =
     pop_means c rest s I32 s.operands s.operands.above (λ base vs. run_load (showing c s) offset base vs rest (Loads l.gives l.bytes l.sign) memory) (load_taken l offset memory s)
-        (λ base vs. load_if c rest s (nat_le (base + offset + l.bytes) (length memory)) l (number_of (take l.bytes (drop (base + offset) memory))) vs) (refl, tt)
+    (λ base vs. load_if c rest s (nat_le (base + offset + l.bytes) (length memory)) l (number_of (take l.bytes (drop (base + offset) memory))) vs) (refl, tt)
 
 load_means : (c : Config) (rest : Code) (s : State) (offset : ℕ) (row : Row) → Means c rest s (where_some s.memory (λ memory. pop I32 s.operands.above (λ base vs. run_load (showing c s) offset base vs rest row memory))) (load_typed offset s (load_types row))
 load_means c rest s offset (Loads t n e) = load_at c rest s (record { gives = t; bytes = n; sign = e }) offset s.memory
@@ -169,22 +167,22 @@ written_length memory at n v h =
     overwrite_length memory (bytes_of n v) at (omega (arith, l, length_of_bytes n v))
 
 store_if : (c : Config) (rest : Code) (s : State) (b : Bool) (memory new : List ℕ) (ws : List Word) → s.memory ≡ Some memory → (b ≡ true → length new ≡ length memory) → Means c rest s (elim b [ true ↦ goes_at (with_memory (showing c s) new) ws rest | false ↦ Trapped OutOfBounds (showing c s).store ]) (store_written (with_operands s (with_above s.operands ws)) (elim b [ true ↦ Some new | false ↦ None ]))
-store_if c rest s true memory new ws e l = (refl, record { below = refl; most = refl; outer = refl; locals = refl; size = ap Some (l refl) ∙ sym (ap length_of e) })
+store_if c rest s true memory new ws e l = (refl, record { below = refl; most = refl; room = refl; outer = refl; local_room = refl; locals = refl; size = ap Some (l refl) ∙ sym (ap length_of e) })
 store_if c rest s false memory new ws e l = (refl, tt)
 
 store_at : (c : Config) (rest : Code) (s : State) (l : Storing) (offset : ℕ) (o : Option (List ℕ)) → s.memory ≡ o → Means c rest s (where_some o (run_store (showing c s) offset s.operands.above rest (Stores l.takes l.bytes))) (store_in l offset s o)
 store_at c rest s l offset None e = (refl, tt)
 store_at c rest s l offset (Some memory) e =
     pop_means c rest s l.takes s.operands s.operands.above (λ value vs. pop I32 vs (λ base us. elim (nat_le (base + offset + l.bytes) (length memory)) [
-        | true ↦ goes_at (with_memory (showing c s) (overwrite memory (base + offset) (bytes_of l.bytes value))) us rest
-        | false ↦ Trapped OutOfBounds (showing c s).store
-      ])) (store_taken l offset memory s)
-        (λ value vs. pop_means c rest s I32 (with_above s.operands vs) vs (λ base us. elim (nat_le (base + offset + l.bytes) (length memory)) [
-            | true ↦ goes_at (with_memory (showing c s) (overwrite memory (base + offset) (bytes_of l.bytes value))) us rest
-            | false ↦ Trapped OutOfBounds (showing c s).store
-          ]) (store_based l offset value memory s)
-            (λ base us. store_if c rest s (nat_le (base + offset + l.bytes) (length memory)) memory (overwrite memory (base + offset) (bytes_of l.bytes value)) us e (written_length memory (base + offset) l.bytes value)) (refl, tt))
-        (refl, tt)
+      | true ↦ goes_at (with_memory (showing c s) (overwrite memory (base + offset) (bytes_of l.bytes value))) us rest
+      | false ↦ Trapped OutOfBounds (showing c s).store
+    ])) (store_taken l offset memory s)
+    (λ value vs. pop_means c rest s I32 (with_above s.operands vs) vs (λ base us. elim (nat_le (base + offset + l.bytes) (length memory)) [
+      | true ↦ goes_at (with_memory (showing c s) (overwrite memory (base + offset) (bytes_of l.bytes value))) us rest
+      | false ↦ Trapped OutOfBounds (showing c s).store
+    ]) (store_based l offset value memory s)
+    (λ base us. store_if c rest s (nat_le (base + offset + l.bytes) (length memory)) memory (overwrite memory (base + offset) (bytes_of l.bytes value)) us e (written_length memory (base + offset) l.bytes value)) (refl, tt))
+    (refl, tt)
 
 no_store : (c : Config) (rest : Code) (s : State) (o : Option (List ℕ)) → Means c rest s (where_some o (λ memory. NoRule)) Lost
 no_store c rest s None = (refl, tt)
@@ -217,7 +215,7 @@ grow_means : (c : Config) (rest : Code) (s : State) (o : Option (List ℕ)) → 
 grow_means c rest s None e = (refl, tt)
 grow_means c rest s (Some memory) e =
     pop_means c rest s I32 s.operands s.operands.above (λ n vs. grow (length memory / page) (showing c s) n vs rest memory) (grow_taken memory s)
-        (λ n vs. (grow_by c rest s memory n vs e, kept_above s (word I32 (grown n (length memory / page)) ∷ vs))) (refl, tt)
+    (λ n vs. (grow_by c rest s memory n vs e, kept_above s (word I32 (grown n (length memory / page)) ∷ vs))) (refl, tt)
 
 -- ---- all of them
 

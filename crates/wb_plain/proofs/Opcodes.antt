@@ -2,12 +2,12 @@
 use Rattle.std.proofs.Common.{◌≡◌, ℕ, zero, suc, ◌+◌, ◌<◌, ◌≤◌, ◌^◌, arith, refl, sym, ap, ◌∙◌, subst, ◌⊎◌, inl, inr}
 use Rattle.std.specs.Prelude.{Bool, true, false, ◌&&◌, ◌||◌, nat_le, Option, Some, None}
 use Rattle.std.proofs.lemmas.Bool.{cases_lt, leb-true, and_parts}
-use Rattle.wb_syntax.specs.Table.{Row, Loads, Stores, Takes1, Takes2, row_at, between}
+use Rattle.wb_syntax.specs.Table.{Row, Takes1, Takes2, row_at, between}
 use Rattle.wb_syntax.specs.Numbers.{bits_of}
 use Rattle.wb_syntax.specs.Execute.{same_type}
 use Rattle.wb_num.specs.Answers.{takes_one, takes_two, operand_bits, result_bits, IsUnaryOperation, IsBinaryOperation, IsOperand, IsResult}
 use Rattle.wb_plain.specs.Syntax.{NumType, I32, I64}
-use Rattle.wb_plain.specs.Rows.{Operation, Loading, Storing, unary_types, binary_types, load_types, store_types}
+use Rattle.wb_plain.specs.Rows.{Operation, unary_types, binary_types, load_types, store_types}
 
 -- a test holds at so many numbers from this one on
 abbrev tested : (ℕ → Bool) → (count low : ℕ) → Bool

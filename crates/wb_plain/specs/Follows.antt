@@ -4,7 +4,7 @@ use Rattle.wb_syntax.specs.Syntax.{Code}
 use Rattle.wb_plain.specs.Syntax.{Instr, Br, BrIf, BrTable, Return, Call, Module}
 use Rattle.wb_syntax.specs.Execute.{TheStore, Config, Move, Traps as Trapped, NoRule, page, goes_at, plain}
 use Rattle.wb_state.specs.Stack.{IsOver}
-use Rattle.wb_plain.specs.Effects.{State, Leaves, kind_of, SameStore, IsOverfull}
+use Rattle.wb_plain.specs.Effects.{State, kind_of, SameStore}
 use Rattle.wb_plain.specs.declared.outcome.Outcome.{Outcome}
 use Rattle.wb_plain.specs.declared.outcome.Outcome.TheVariants.{Goes, Full, Traps, Stuck}
 
@@ -55,12 +55,14 @@ abbrev pub length_of : Option (List ℕ) → Option ℕ
 length_of None = None
 length_of (Some memory) = Some (length memory)
 
--- what no such instruction changes: the words below the floor, how many there may be, the locals of the frames around,
--- how many locals there are, and the size of the memory
+-- what no such instruction changes: the words below the floor, how many there may be and for how many there is room,
+-- the locals of the frames around, how many locals there are and for how many there is room, and the size of the memory
 pub record Keeps (old new : State) : Type 0 where
   pub below : new.operands.below ≡ old.operands.below
   pub most : new.operands.most ≡ old.operands.most
+  pub room : new.operands.room ≡ old.operands.room
   pub outer : new.locals.outer ≡ old.locals.outer
+  pub local_room : new.locals.room ≡ old.locals.room
   pub locals : length new.locals.current ≡ length old.locals.current
   pub size : length_of new.memory ≡ length_of old.memory
 

@@ -19,7 +19,11 @@ use wb_syntax::NumType;
 pub fn put(state: &mut State, word: Word) -> Outcome
     ensures { Ends result (puts state.old (seen word)) state.old state.new }
 {
-    if state.operands.put(word) { Outcome::Goes } else { Outcome::Full }
+    if state.operands.put(word) {
+        Outcome::Goes
+    } else {
+        Outcome::Full
+    }
 }
 
 /// An operation with one operand.

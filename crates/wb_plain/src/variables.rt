@@ -40,7 +40,7 @@ pub fn local_tee(state: &mut State, index: u32) -> Outcome
     if !state.locals.set(index, word) {
         return Outcome::Stuck;
     }
-    put(state, word)
+    put(state, word) // the word stays
 }
 
 /// Puts the word of a global on top.

@@ -1,6 +1,6 @@
 //! Memory, and the numbers that it holds, the lowest byte first.
 
-ghost use Rattle.std.specs.Prelude.{◌≡◌, ◌+◌, ◌*◌, ◌/◌, ◌<◌, ◌≤◌, ◌^◌, [], ◌∷◌, length, take, drop, replicate, IfOk, IfSome};
+ghost use Rattle.std.specs.Prelude.{◌≡◌, ◌+◌, ◌*◌, ◌/◌, ◌<◌, ◌≤◌, ◌^◌, nat_le, length, take, drop, replicate, IfOk, IfSome};
 ghost use Rattle.wb_syntax.specs.Execute.{number_of, bytes_of, overwrite, page};
 ghost use Rattle.wb_state.specs.Bytes.{bytes_in, read_at, written_at, WritesTo};
 
@@ -154,6 +154,14 @@ impl Model for Memory {
     ghost invariant = { λ m. vec_len m.bytes ≤ 2 ^ 32 };
 }
 
+/// Whether so many bytes stand from an index on.
+fn is_there(bytes: &[u8], at: usize, width: Width) -> bool
+    requires { at < 2 ^ 33 }
+    ensures { result ≡ nat_le (at + bytes_in width) (length bytes.now) }
+{
+    at + width.bytes() <= bytes.len()
+}
+
 impl Memory {
     /// A memory of so many pages of zeros.
     pub fn new(alloc: Global, pages: u32) -> Result<Memory, AllocError>
@@ -178,7 +186,7 @@ impl Memory {
         ensures fits { IfSome result (λ n. n < 2 ^ (8 * bytes_in width)) }
     {
         let at = at as usize;
-        if at + width.bytes() > self.bytes.len() {
+        if !is_there(&self.bytes, at, width) {
             return None;
         }
         Some(number_at(&self.bytes, at, width))
@@ -190,7 +198,7 @@ impl Memory {
         ensures { WritesTo (written_at self.old at (bytes_in width) number) self.old result self.new }
     {
         let at = at as usize;
-        if at + width.bytes() > self.bytes.len() {
+        if !is_there(&self.bytes, at, width) {
             return false;
         }
         set_number(&mut self.bytes, at, width, number);

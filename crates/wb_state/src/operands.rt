@@ -1,21 +1,24 @@
 //! The operands of a run.
 
-ghost use Rattle.std.specs.Prelude.{◌≡◌, ◌<◌, ◌^◌, IfOk, IfSome};
+ghost use Rattle.std.specs.Prelude.{◌≡◌, ◌+◌, ◌<◌, ◌≤◌, ◌^◌, length, IfOk, IfSome};
 ghost use Rattle.wb_syntax.specs.Numbers.{bits_of};
 ghost use Rattle.wb_state.specs.Words.{seen};
-ghost use Rattle.wb_state.specs.Stack.{empty, put, take_word, TakesAny, TakesTo, PutsTo};
+ghost use Rattle.wb_state.specs.Stack.{empty, put, take_word, height_of, raised, cut, TakesAny, TakesTo, PutsTo, Reserves, AreArguments};
 
 use crate::words::Word;
 use std::alloc::{AllocError, Global};
 use std::marker::Model;
 use wb_syntax::NumType;
 
-/// A stack of words with a floor: what stands below it is not taken. It holds no more words than it may.
+/// A stack of words with a floor: what stands below it is not taken.
+///
+/// It has room for so many words, and holds no more than it may: the rest of the room is reserved.
 #[derive(Drop)]
 pub struct Operands {
     words: Vec<Word>,
     floor: usize,
     most: usize,
+    room: usize,
 }
 
 impl Model for Operands {
@@ -25,21 +28,22 @@ impl Model for Operands {
 
     ghost Value = { Stack };
 
-    ghost view = { λ o. stack_of o.words.items o.floor o.most };
+    ghost view = { λ o. stack_of o.words.items o.floor o.most o.room };
 
-    ghost invariant = { λ o. (o.floor ≤ vec_len o.words) × (vec_len o.words ≤ o.most) × (o.most ≤ vec_capacity o.words) };
+    ghost invariant = { λ o. (o.floor ≤ vec_len o.words) × (vec_len o.words ≤ o.most) × (o.most ≤ o.room) × (o.room ≤ vec_capacity o.words) };
 }
 
 impl Operands {
     /// An empty stack with room for this many words.
-    pub fn new(alloc: Global, most: usize) -> Result<Operands, AllocError>
-        ensures { IfOk result (λ o. o ≡ empty most) }
+    pub fn new(alloc: Global, room: usize) -> Result<Operands, AllocError>
+        ensures { IfOk result (λ o. o ≡ empty room) }
     {
-        let words = Vec::with_capacity(alloc, most)?;
+        let words = Vec::with_capacity(alloc, room)?;
         Ok(Operands {
             words,
             floor: 0,
-            most,
+            most: room,
+            room,
         })
     }
 
@@ -73,5 +77,67 @@ impl Operands {
         }
         self.words.push(word).unwrap();
         true
+    }
+
+    /// How many words there are.
+    pub fn height(&self) -> usize
+        ensures { result ≡ height_of self.now }
+    {
+        self.words.len()
+    }
+
+    /// How many words stand below the floor.
+    pub fn floor(&self) -> usize
+        ensures { result ≡ length self.now.below }
+    {
+        self.floor
+    }
+
+    /// Takes room for so many words away; says whether there was as much, and else changes nothing.
+    pub fn reserve(&mut self, count: u64) -> bool
+        ensures { Reserves count self.old result self.new }
+    {
+        let spare = self.most - self.words.len();
+        if count > spare as u64 {
+            return false;
+        }
+        self.most -= count as usize;
+        true
+    }
+
+    /// Gives room for so many words back, which was taken away.
+    pub fn release(&mut self, count: usize)
+        requires { self.old.most + count ≤ self.old.room }
+        ensures { self.new ≡ record self.old { most = self.old.most + count } }
+    {
+        self.most += count;
+    }
+
+    /// Puts the floor on top of all words.
+    pub fn raise(&mut self)
+        ensures { self.new ≡ raised self.old }
+    {
+        self.floor = self.words.len();
+    }
+
+    /// Leaves so many of the words, and puts the floor at this height.
+    pub fn cut(&mut self, height: usize, floor: usize)
+        requires floor { floor ≤ height }
+        requires height { height ≤ height_of self.old }
+        ensures { self.new ≡ cut height floor self.old }
+    {
+        self.words.truncate(height);
+        self.floor = floor;
+    }
+
+    /// The topmost words above the floor, the top last, where there are so many.
+    pub fn arguments(&self, count: usize) -> Option<&[Word]>
+        ensures { AreArguments self.now count result }
+    {
+        let height = self.words.len();
+        if height - self.floor < count {
+            return None;
+        }
+        Some(&self.words[height - count..])
     }
 }
