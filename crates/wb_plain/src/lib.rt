@@ -14,6 +14,8 @@ mod numeric;
 mod operations;
 mod outcome;
 mod stepping;
+#[cfg(test)]
+mod tests;
 mod variables;
 
 pub use outcome::{Outcome, TrapKind};

@@ -19,6 +19,8 @@ mod locals;
 mod memory;
 mod operands;
 mod state;
+#[cfg(test)]
+mod tests;
 mod words;
 
 pub use globals::Globals;
