@@ -6,7 +6,7 @@ use Rattle.wb_syntax.specs.Table.{row_at}
 use Rattle.wb_syntax.specs.Nesting.{Open, Closes}
 use Rattle.wb_encode.specs.Appended.{Every}
 use Rattle.wb_encode.specs.Encodable.{IsOfTable, AreBodiesWellNested, AreOfTable, AreLocalsFew}
-use Rattle.cf_sums.specs.Sums.{Sum, Number, Plus}
+use Rattle.cf_driver.specs.Sums.{Sum, Number, Plus}
 use Rattle.cf_driver.specs.Lowering.{instructions, module_of}
 
 -- the instructions of a sum before others, regrouped

@@ -3,3 +3,4 @@ pub mod ModuleRuns
 pub mod Alike
 pub mod Valid
 pub mod Encodable
+pub mod Sums

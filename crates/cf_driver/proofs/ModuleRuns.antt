@@ -13,7 +13,7 @@ use Rattle.wb_syntax.specs.Numbers.{signed}
 use Rattle.wb_syntax.specs.Nesting.{flat, Level, levels, nested, put_before, whole}
 use Rattle.wb_syntax.specs.Execute.{Word, word, TheStore, Frame, Config, placed_at}
 use Rattle.wb_syntax.specs.Runs.{Main, RunEnd, Returned, StackFull, Stuck, runs, mach, first_config}
-use Rattle.cf_sums.specs.Sums.{Sum, Number, Plus}
+use Rattle.cf_driver.specs.Sums.{Sum, Number, Plus}
 use Rattle.cf_driver.specs.Lowering.{instructions, module_of, func_of}
 
 -- the instructions of a sum as nested code, before this code

@@ -7,7 +7,7 @@ use Rattle.cf_object.specs.Run.{Num, Run, Is, Bound, DoPrim, DoLet, ByVal}
 use Rattle.cf_object.specs.Jumps.{Known, apart, marked}
 use Rattle.cf_object.specs.Machine.{LeftOf, RightOf, LetOf, Kept, State, After, Ended, run}
 use Rattle.cf_object.specs.Program.{program_run}
-use Rattle.cf_sums.specs.Sums.{Sum, Number, Plus}
+use Rattle.cf_driver.specs.Sums.{Sum, Number, Plus}
 use Rattle.cf_driver.specs.Lowering.{object_of, program_of}
 
 -- the value of a sum

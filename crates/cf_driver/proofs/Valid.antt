@@ -7,7 +7,7 @@ use Rattle.wb_syntax.specs.declared.syntax.Instr.TheVariants.{Binary, End}
 use Rattle.wb_syntax.specs.Syntax.{Plain, Code, Nothing, Then}
 use Rattle.wb_syntax.specs.Table.{row_at}
 use Rattle.wb_syntax.specs.Typing.{Context, Types, IsTypedBody, FuncTypeOf, Memories, MemoryLimits, GlobalInit, ExportOf, Body, Valid}
-use Rattle.cf_sums.specs.Sums.{Sum, Number, Plus}
+use Rattle.cf_driver.specs.Sums.{Sum, Number, Plus}
 use Rattle.cf_driver.specs.Lowering.{instructions, func_of, module_of}
 use Rattle.cf_driver.proofs.ModuleRuns.{code_of, flat_code}
 

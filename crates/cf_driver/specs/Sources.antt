@@ -22,10 +22,6 @@ pub record ReadsAs (source : List ℕ) (p : Program) : Type 0 where
   pub lexed : HasTokens source tokens
   pub reads : Reads false tokens p
 
--- the source is a program of the language
-abbrev pub IsProgram : List ℕ → Type 0
-IsProgram source = (p : Program) × ReadsAs source p
-
 -- the source has tokens, and they are no program for this reason
 abbrev pub HasNoProgram : List ℕ → ParseEnd → Type 0
 HasNoProgram source e = (l : TokenList) × HasTokens source l × IsRefused false l e

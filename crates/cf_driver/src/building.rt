@@ -5,7 +5,6 @@ ghost use Rattle.cf_driver.specs.Built.{BuiltFrom, IsNotBuilt};
 use crate::lowering::lowered;
 use crate::reading::read;
 use cf_diag::Refusal;
-use cf_sums::{ParseEnd, first};
 use std::alloc::Global;
 use wb_encode::encode;
 
@@ -16,14 +15,11 @@ pub fn built(alloc: Global, source: &[u8]) -> Result<Vec<u8>, Refusal>
     ensures module { IfOk result (λ bytes. BuiltFrom source.now bytes.items) }
     ensures refused { IfErr result (λ e. IsNotBuilt source.now e) }
 {
-    read(alloc, source)?;
-    let sum = match first(alloc, source) {
-        Ok(sum) => sum,
-        Err(ParseEnd::Syntax(_)) => return Err(Refusal::Later),
-        Err(ParseEnd::NoMemory) => return Err(Refusal::NoMemory),
-    };
-    let Ok(module) = lowered(alloc, &sum) else {
-        return Err(Refusal::NoMemory);
+    let program = read(alloc, source)?;
+    let module = match lowered(alloc, &program) {
+        Ok(Some(module)) => module,
+        Ok(None) => return Err(Refusal::Later),
+        Err(_) => return Err(Refusal::NoMemory),
     };
     match encode(alloc, &module) {
         Ok(bytes) => Ok(bytes),

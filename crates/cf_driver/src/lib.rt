@@ -3,6 +3,8 @@
 
 mod building;
 mod lowering;
+mod printing;
 mod reading;
 
 pub use building::built;
+pub use printing::core;

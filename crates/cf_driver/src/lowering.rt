@@ -1,9 +1,9 @@
 // The module of a sum.
-ghost use Rattle.std.specs.Prelude.{◌≡◌, ◌++◌, [], ◌∷◌, OnOk, IfOk};
-ghost use Rattle.cf_sums.specs.Sums.{sum_of};
-ghost use Rattle.cf_driver.specs.Lowering.{AllFit, instructions, module_of};
+ghost use Rattle.std.specs.Prelude.{◌≡◌, ◌↔◌, [], ◌∷◌, IfOk, IsTrue, codes, option_map};
+ghost use Rattle.std.specs.String.{string_bytes};
+ghost use Rattle.cf_driver.specs.Lowering.{AddsSum, FindsMain, Lowers, module_with};
 
-use cf_sums::First;
+use cf_tree::{Decl, Node, Op, Program, Tree};
 use sqlite_items::Items;
 use std::alloc::{AllocError, Global};
 use wb_syntax::{Export, Exported, Func, FuncType, Instr, Module, Name, NumType};
@@ -11,22 +11,49 @@ use wb_syntax::{Export, Exported, Func, FuncType, Instr, Module, Name, NumType};
 /// The opcode of i64.add (WebAssembly Core 1.0, 5.4.5).
 const I64_ADD: u8 = 0x7C;
 
-// The instructions that leave the sum on the stack, behind those that are there.
-fn push_code(out: &mut Items<Instr>, e: &First) -> Result<(), AllocError>
-    ensures code { OnOk result (out.new ≡ out.old ++ instructions (sum_of e.now)) }
-    ensures fit { OnOk result (AllFit (sum_of e.now)) }
+// Whether the term is a sum. The instructions that leave it on the stack then stand behind those that are there.
+fn push_code(out: &mut Items<Instr>, t: &Tree) -> Result<bool, AllocError>
+    ensures { IfOk result (λ is. AddsSum t.now out.old out.new is) }
 {
-    match e {
-        First::Whole(z) => {
+    match &t.node {
+        Node::Lit(z) => {
             out.push(Instr::I64Const(*z))?;
-            Ok(())
+            Ok(true)
         }
-        First::Add(a, b) => {
-            push_code(out, a)?;
-            push_code(out, b)?;
+        Node::Prim(Op::Add, a, b) => {
+            if !push_code(out, a)? || !push_code(out, b)? {
+                return Ok(false);
+            }
             out.push(Instr::Binary(I64_ADD))?;
-            Ok(())
+            Ok(true)
         }
+        _ => Ok(false),
+    }
+}
+
+// Whether the name is `main`.
+fn is_main(name: &String) -> bool
+    ensures { IsTrue result ↔ (string_bytes name.now ≡ codes "main") }
+{
+    name.as_bytes() == b"main".as_slice()
+}
+
+// The body of `main`, where the program is `main : Int := body;` alone.
+fn main_alone(p: &Program) -> Option<&Tree>
+    ensures { FindsMain p.now (option_map (λ t. t.now) result) }
+{
+    if p.explicit || p.prelude || p.decls.len() != 1 {
+        return None;
+    }
+    match &p.decls[0] {
+        Decl::ObjectD { name, ty, body, .. } => {
+            if is_main(name) && matches!(&ty.node, Node::IntTy) {
+                Some(body)
+            } else {
+                None
+            }
+        }
+        _ => None,
     }
 }
 
@@ -39,14 +66,10 @@ fn only<T: Drop>(alloc: Global, item: T) -> Result<Items<T>, AllocError>
     Ok(items)
 }
 
-/// The module whose one function leaves the sum, exported as `main`.
-pub fn lowered(alloc: Global, e: &First) -> Result<Module, AllocError>
-    ensures module { IfOk result (λ m. m ≡ module_of (sum_of e.now)) }
-    ensures fit { OnOk result (AllFit (sum_of e.now)) }
+// The module whose one function has this body, exported as `main`.
+fn with_body(alloc: Global, body: Items<Instr>) -> Result<Module, AllocError>
+    ensures { IfOk result (λ m. m ≡ module_with body) }
 {
-    let mut body = Items::new(alloc);
-    push_code(&mut body, e)?;
-    body.push(Instr::End)?;
     let name = Name::new(String::from_str(alloc, "main")?);
     Ok(Module {
         types: only(
@@ -74,4 +97,20 @@ pub fn lowered(alloc: Global, e: &First) -> Result<Module, AllocError>
             },
         )?,
     })
+}
+
+/// The module of a program that is a sum, whose one function leaves the sum and is exported as `main`; `None` where the program is none.
+pub fn lowered(alloc: Global, p: &Program) -> Result<Option<Module>, AllocError>
+    ensures { IfOk result (λ m. Lowers p.now m) }
+{
+    let Some(sum) = main_alone(p) else {
+        return Ok(None);
+    };
+    let mut body = Items::new(alloc);
+    if !push_code(&mut body, sum)? {
+        return Ok(None);
+    }
+    body.push(Instr::End)?;
+    let module = with_body(alloc, body)?;
+    Ok(Some(module))
 }

@@ -1,17 +1,18 @@
-// Whether the bytes of a source are a program.
-ghost use Rattle.std.specs.Prelude.{◌≤◌, IfErr, OnOk, length};
-ghost use Rattle.cf_driver.specs.Sources.{IsProgram, IsUnread};
+// Which program the bytes of a source are.
+ghost use Rattle.std.specs.Prelude.{◌≤◌, IfErr, IfOk, length};
+ghost use Rattle.cf_driver.specs.Sources.{IsUnread, ReadsAs};
 
 use cf_diag::Refusal;
 use cf_lex::{LexEnd, tokens};
-use cf_parse::{ParseEnd, check};
+use cf_parse::{ParseEnd, parse};
+use cf_tree::Program;
 use std::alloc::Global;
 
-/// Whether a source of at most 1,048,576 bytes is a program of the language; or `NotText`, `BadChar`, `Syntax`, `TooNested`, `TooMany` or
-/// `Literal`, with the place.
-pub fn read(alloc: Global, source: &[u8]) -> Result<(), Refusal>
+/// The program that a source of at most 1,048,576 bytes reads as; or `NotText`, `BadChar`, `Syntax`, `TooNested`, `TooMany` or `Literal`,
+/// with the place.
+pub fn read(alloc: Global, source: &[u8]) -> Result<Program, Refusal>
     requires short { length source.now ≤ 1048576 }
-    ensures program { OnOk result (IsProgram source.now) }
+    ensures program { IfOk result (λ p. ReadsAs source.now p) }
     ensures refused { IfErr result (λ e. IsUnread source.now e) }
 {
     let tokens = match tokens(alloc, source) {
@@ -20,8 +21,8 @@ pub fn read(alloc: Global, source: &[u8]) -> Result<(), Refusal>
         Err(LexEnd::BadChar(at)) => return Err(Refusal::BadChar(at)),
         Err(LexEnd::NoMemory) => return Err(Refusal::NoMemory),
     };
-    match check(alloc, &tokens, false) {
-        Ok(()) => Ok(()),
+    match parse(alloc, &tokens, false) {
+        Ok(program) => Ok(program),
         Err(ParseEnd::Syntax(at)) => Err(Refusal::Syntax(at)),
         Err(ParseEnd::TooNested(at)) => Err(Refusal::TooNested(at)),
         Err(ParseEnd::TooMany(at, what)) => Err(Refusal::TooMany(at, what)),

@@ -1,35 +1,34 @@
-use Rattle.std.proofs.Common.{sym, subst, arith}
+use Rattle.std.proofs.Common.{rules, sym, subst}
 use Rattle.wb_syntax.specs.Binary.{Encodes}
-use Rattle.wb_encode.specs.Encodable.{AreBodiesWellNested, AreInitialValuesWellNested, AreOfTable, AreLocalsFew}
-use Rattle.cf_sums.specs.Sums.{sum_of}
-use Rattle.cf_driver.specs.Lowering.{module_of}
+use Rattle.wb_encode.specs.Encodable.{AreBodiesWellNested, AreOfTable}
+use Rattle.cf_driver.specs.Lowering.{IsLowered, module_of}
 use Rattle.cf_driver.proofs.Alike.{ends_alike}
-use Rattle.cf_driver.proofs.Encodable.{well_nested, of_table, few_locals}
+use Rattle.cf_driver.proofs.Encodable.{well_nested, of_table}
 use Rattle.cf_driver.proofs.Valid.{valid}
 use Rattle.cf_driver.proofs.building.built.Goals as goal
 
-pub encode-requires : goal.encode-requires
-encode-requires c =
-    let s = sum_of c.in-Ok.sum in
-    let is = sym c.in-Ok-lowered.ensures.module in
-    record {
-      bodies = subst AreBodiesWellNested is (well_nested s);
-      initial_values = subst AreInitialValuesWellNested is tt;
-      instructions = subst AreOfTable is (of_table s);
-      locals = subst AreLocalsFew is (few_locals s);
-    }
+pub encode-requires-clause-bodies : goal.encode-requires-clause-bodies
+encode-requires-clause-bodies c =
+    let l : IsLowered c.in_ok-program.program c.in-Ok-Some.module = search rules in
+    subst AreBodiesWellNested (sym l.same) (well_nested l.sum)
 
-pub returns-in-Ok-encode-clause-module : goal.returns-in-Ok-encode-clause-module
-returns-in-Ok-encode-clause-module c =
-    let s = sum_of c.in-Ok.sum in
+pub encode-requires-clause-instructions : goal.encode-requires-clause-instructions
+encode-requires-clause-instructions c =
+    let l : IsLowered c.in_ok-program.program c.in-Ok-Some.module = search rules in
+    subst AreOfTable (sym l.same) (of_table l.sum)
+
+pub returns-in-Ok-clause-module : goal.returns-in-Ok-clause-module
+returns-in-Ok-clause-module c =
+    let l : IsLowered c.in_ok-program.program c.in-Ok-Some.module = search rules in
     record {
-      program = c.in_ok-read.ensures.program;
-      sum = s;
-      read = c.in-Ok.ensures.read;
+      program = c.in_ok-program.program;
+      read = c.in_ok-program.ensures.program;
+      sum = l.sum;
+      is_sum = l.is_sum;
       built = record {
-        the_module = module_of s;
-        encoded = subst (λ m. Encodes m c.in-Ok-encode.bytes.items) c.in-Ok-lowered.ensures.module c.in-Ok-encode.ensures;
-        valid = valid s;
-        same = ends_alike s c.in-Ok-lowered.ensures.fit;
+        the_module = module_of l.sum;
+        encoded = subst (λ m. Encodes m c.in-Ok.bytes.items) l.same c.in-Ok.ensures;
+        valid = valid l.sum;
+        same = ends_alike l.sum l.fit;
       };
     }
