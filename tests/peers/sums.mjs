@@ -30,10 +30,15 @@ function expect(what, got, want) {
   }
 }
 
-// Examples, each with what its `main` returns.
-for (const name of readdirSync(`${top}/examples`).filter((name) => name.endsWith(".cftt"))) {
-  const want = BigInt(readFileSync(`${top}/examples/${name.replace(/cftt$/, "expected")}`, "utf8").trim());
-  expect(name, run(build(readFileSync(`${top}/examples/${name}`))), want);
+// Examples: with `.expected` what `main` returns, with `.core` the printed form of the core, which is its own core.
+for (const name of readdirSync(`${top}/examples`)) {
+  const source = `${top}/examples/${name.replace(/[.]\w+$/, ".cftt")}`;
+  const text = readFileSync(`${top}/examples/${name}`, "utf8");
+  if (name.endsWith(".expected")) expect(name, run(build(readFileSync(source))), BigInt(text.trim()));
+  if (name.endsWith(".core")) {
+    expect(name, `${build(readFileSync(source), ["core"])}`, text);
+    expect(`${name} again`, `${build(text, ["core"])}`, text);
+  }
 }
 
 // Numbers at the edges of their encodings, alone and in sums that wrap.
