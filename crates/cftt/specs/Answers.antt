@@ -1,37 +1,22 @@
 -- What the program answers, by its words, its input and what it wrote. A command or a refusal that comes later adds a case, and rewords none.
-use Rattle.std.specs.Prelude.{◌≡◌, ◌⊎◌, ℕ, suc, ◌+◌, ◌<◌, ◌≤◌, List, [], ◌∷◌, ◌++◌, length, take, codes, Option, Result, Ok, Err}
+use Rattle.std.specs.Prelude.{◌≡◌, ◌⊎◌, ℕ, ◌+◌, ◌≤◌, List, length, Option, Result, Ok, Err}
 use Rattle.std.specs.Io.KnownBytes.{Appends, Consumes}
 use Rattle.cf_base.specs.Causes.{Rose, GivesAll, TakesFront}
 use Rattle.cf_diag.specs.Refusals.{refusal_text}
 use Rattle.cf_diag.specs.declared.refusal.Refusal.{Refusal}
 use Rattle.cf_diag.specs.declared.refusal.Refusal.TheVariants.{Usage, ReadFault, TooLong, WriteFault, NoMemory}
 use Rattle.cf_driver.specs.Built.{BuiltFrom, IsNotBuilt}
+use Rattle.cf_driver.specs.Cores.{CoreFrom, HasNoCore}
+use Rattle.cf_words.specs.Lines.{IsLine, IsUsage}
+use Rattle.cf_words.specs.declared.command.Command.{Command}
+use Rattle.cf_words.specs.declared.command.Command.TheVariants.{Core, Build}
 use Rattle.cftt.specs.declared.top.Report.{Report}
 
 -- ---- words
 
--- a command
-pub data Command : Type 0 where
-  Build : Command
-
--- the words are the line of this command
-pub data IsLine : List (List ℕ) → Command → Type 0 where
-  build : IsLine (codes "build" ∷ []) Build
-
 -- the words are the line of a command of which this holds
 abbrev pub OnLine : List (List ℕ) → (Command → Type 0) → Type 0
 OnLine words P = (c : Command) × IsLine words c × P c
-
--- the words begin a line
-abbrev pub BeginsLine : List (List ℕ) → Type 0
-BeginsLine words = (more : List (List ℕ)) × (c : Command) × IsLine (words ++ more) c
-
--- the words are no line, and i is the first word such that the words up to it begin none, or the number of words where each does
-pub record IsUsage (words : List (List ℕ)) (i : ℕ) : Type 0 where
-  pub within : i ≤ length words
-  pub before : BeginsLine (take i words)
-  pub here : i < length words → BeginsLine (take (suc i) words) → ⊥
-  pub no_line : (c : Command) → IsLine words c → ⊥
 
 -- ---- input and output
 
@@ -44,7 +29,8 @@ pub record Ends : Type 0 where
 
 -- the most bytes that the input of a command may have
 abbrev pub most_bytes : Command → ℕ
-most_bytes Build = 1048576
+most_bytes (Core steps) = 1048576
+most_bytes (Build steps pages) = 1048576
 
 -- the input was read to its end, and this is all of it
 pub record HasInput (c : Command) (old new : Ends) (input : List ℕ) : Type 0 where
@@ -59,13 +45,19 @@ pub record IsTooLong (c : Command) (old new : Ends) : Type 0 where
 
 -- ---- answers
 
--- what a command writes for its input, and what it reports: one case for each command
+-- the report of a command that only writes
+abbrev pub written : Report
+written = record { code = 0; calls = 0 }
+
+-- what a command writes for its input, and what it reports: one case for each command. The numbers of the options have no effect yet
 abbrev pub Writes : Command → (input : List ℕ) → Report → (output : List ℕ) → Type 0
-Writes Build source report bytes = (report ≡ record { code = 0; calls = 0 }) × BuiltFrom source bytes
+Writes (Core steps) source report bytes = (report ≡ written) × CoreFrom source bytes
+Writes (Build steps pages) source report bytes = (report ≡ written) × BuiltFrom source bytes
 
 -- why a command refuses its input: one case for each command
 abbrev pub Refuses : Command → (input : List ℕ) → Refusal → Type 0
-Refuses Build source r = IsNotBuilt source r
+Refuses (Core steps) source r = HasNoCore source r
+Refuses (Build steps pages) source r = IsNotBuilt source r
 
 -- the command ended well: the input was read to its end, and all that it writes was taken
 pub record IsDone (words : List (List ℕ)) (old new : Ends) (report : Report) : Type 0 where

@@ -1,7 +1,6 @@
 //! `cftt`: the program, and its top call.
 #![tactic(auto)]
 
-mod command_line;
 mod run;
 mod telling;
 mod top;

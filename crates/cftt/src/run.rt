@@ -1,21 +1,42 @@
 // The top call.
-ghost use Rattle.std.specs.Prelude.{◌≡◌, IfOk, IfErr, OnOk, map};
+ghost use Rattle.std.specs.Prelude.{◌≡◌, ◌≤◌, IfOk, IfErr, OnOk, length, map};
 ghost use Rattle.std.specs.String.{string_bytes};
-ghost use Rattle.cftt.specs.Answers.{IsDone, Caused, Leaves, OnUsage, IsTold, status_of};
+ghost use Rattle.cftt.specs.Answers.{IsDone, Caused, Leaves, OnUsage, IsTold, Refuses, Writes, most_bytes, status_of, written};
 
-use crate::command_line::read_line;
 use crate::telling::told;
 use crate::top::Report;
 use cf_base::{ReadEnd, Sink, Source, read_all, write_all};
 use cf_diag::Refusal;
-use cf_driver::built;
+use cf_driver::{built, core};
+use cf_words::{Command, WordsEnd, read_words};
 use std::alloc::Global;
 
 /// The most bytes of a source.
-const MOST_BYTES: u64 = 1_048_576;
+const MOST_SOURCE: u64 = 1_048_576;
 
 /// A command that only writes.
 const WRITTEN: Report = Report { code: 0, calls: 0 };
+
+// The most bytes that the input of the command may have.
+fn most_bytes(command: Command) -> u64
+    ensures { result ≡ most_bytes command }
+{
+    match command {
+        Command::Core { .. } | Command::Build { .. } => MOST_SOURCE,
+    }
+}
+
+// What the command writes for a source.
+fn output(alloc: Global, command: Command, source: &[u8]) -> Result<Vec<u8>, Refusal>
+    requires short { length source.now ≤ most_bytes command }
+    ensures writes { IfOk result (λ bytes. Writes command source.now written bytes.items) }
+    ensures refused { IfErr result (λ refusal. Refuses command source.now refusal) }
+{
+    match command {
+        Command::Core { .. } => core(alloc, source),
+        Command::Build { .. } => built(alloc, source),
+    }
+}
 
 // Runs the command that the words give, on `input`, and writes to `out`.
 fn answered<S: Source, O: Sink>(
@@ -35,17 +56,17 @@ fn answered<S: Source, O: Sink>(
         record { left = S.left input.new; read_faults = S.faults input.new; taken = O.taken out.new; write_faults = O.faults out.new } refusal) }
     ensures untouched { IfErr result (λ refusal. OnUsage refusal (input.new ≡ input.old)) }
 {
-    match read_line(words) {
-        Ok(()) => {}
-        Err(i) => return Err(Refusal::Usage(i)),
-    }
-    let source = match read_all(alloc, input, MOST_BYTES) {
+    let command = match read_words(words) {
+        Ok(command) => command,
+        Err(WordsEnd::Usage(i)) => return Err(Refusal::Usage(i)),
+    };
+    let source = match read_all(alloc, input, most_bytes(command)) {
         Ok(source) => source,
         Err(ReadEnd::Fault) => return Err(Refusal::ReadFault),
         Err(ReadEnd::TooLong) => return Err(Refusal::TooLong),
         Err(ReadEnd::NoMemory) => return Err(Refusal::NoMemory),
     };
-    let bytes = built(alloc, &source)?;
+    let bytes = output(alloc, command, &source)?;
     match write_all(out, &bytes) {
         Ok(()) => Ok(WRITTEN),
         Err(_) => Err(Refusal::WriteFault),

@@ -56,10 +56,40 @@ fn run(rt: &HostRuntime, words: &[&str], text: &[u8], ends: &Ends<'_>) -> Result
 
 #[test]
 fn sums_are_built(rt: HostRuntime) -> Result<(), Fail> {
-    for text in [SUM, b"main:Int:=(add(-1)((2)));--".as_slice()] {
-        let seen = run(&rt, &["build"], text, &SOUND)?;
+    for (words, text) in [
+        (["build"].as_slice(), SUM),
+        (&["build"], b"main:Int:=(add(-1)((2)));--"),
+        (&["build"], "-- é\nmain : (Int) := 7;".as_bytes()),
+        (&["build", "--pages", "2", "--steps", "007"], SUM),
+    ] {
+        let seen = run(&rt, words, text, &SOUND)?;
         assert_eq!(rt; seen.end, DONE);
         assert!(rt; seen.written.starts_with(b"\0asm\x01\0\0\0"));
+        assert_eq!(rt; seen.told.len(), 0);
+    }
+    Ok(())
+}
+
+const POWER: &str = "explicit;
+meta power : Pi (n : Nat) -> Pi (x : ^(V Int)) -> ^(V Int) := \\(n : Nat). \\(x : ^(V Int)). natrec (\\(k : Nat). ^(V Int)) <1> (\\(k : Nat). \\(r : ^(V Int)). <mul ~x ~r>) n;
+main : C (Int => V Int) := fn (x : Int). ~(power #5 <x>);
+";
+
+const POWER_CORE: &str = "explicit;
+meta power : Pi (_0 : Nat) -> Pi (_1 : ^(V Int)) -> ^(V Int) := \\(_0 : Nat). \\(_1 : ^(V Int)). natrec (\\(_2 : Nat). ^(V Int)) <1> (\\(_2 : Nat). \\(_3 : ^(V Int)). <mul ~_1 ~_3>) _0;
+main : C (Int => V Int) := fn (_0 : Int). ~(power #5 <_0>);
+";
+
+#[test]
+fn cores_are_written(rt: HostRuntime) -> Result<(), Fail> {
+    for (words, text, core) in [
+        (["core"].as_slice(), POWER, POWER_CORE),
+        (&["core", "--steps", "1"], POWER_CORE, POWER_CORE),
+        (&["core"], "explicit;", "explicit;\n"),
+    ] {
+        let seen = run(&rt, words, text.as_bytes(), &SOUND)?;
+        assert_eq!(rt; seen.end, DONE);
+        assert_eq!(rt; seen.written.as_slice(), core.as_bytes());
         assert_eq!(rt; seen.told.len(), 0);
     }
     Ok(())
@@ -72,6 +102,50 @@ fn refused(rt: HostRuntime) -> Result<(), Fail> {
         (&["builds"], SUM, 2, "refused: usage at word 0\n"),
         (&["x", "build"], SUM, 2, "refused: usage at word 0\n"),
         (&["build", "x"], SUM, 2, "refused: usage at word 1\n"),
+        (
+            &["build", "--pages", "2", "--pages", "3"],
+            SUM,
+            2,
+            "refused: usage at word 3\n",
+        ),
+        (&["build", "--steps"], SUM, 2, "refused: usage at word 2\n"),
+        (
+            &["core", "--pages", "2"],
+            SUM,
+            2,
+            "refused: usage at word 1\n",
+        ),
+        (
+            &["core", "--steps", "0"],
+            SUM,
+            2,
+            "refused: usage at word 2\n",
+        ),
+        (
+            &["core"],
+            b"explicit; main : V Int := x;",
+            1,
+            "refused: unknown name at 26\n",
+        ),
+        (
+            &["core"],
+            b"explicit; main : V Int := 1; main : V Int := 2;",
+            1,
+            "refused: declared twice at 29\n",
+        ),
+        (
+            &["core"],
+            b"main : Int := 7;",
+            1,
+            "refused: form not built yet\n",
+        ),
+        (&["core"], b"\xFF", 1, "refused: not text at 0\n"),
+        (
+            &["core"],
+            b"explicit; main : V Int := ;",
+            1,
+            "refused: syntax at 26\n",
+        ),
         (&["build"], b"\xFF", 1, "refused: not text at 0\n"),
         (
             &["build"],
@@ -140,6 +214,12 @@ fn refused(rt: HostRuntime) -> Result<(), Fail> {
         (
             &["build"],
             b"explicit; main : V Int := 7;",
+            1,
+            "refused: form not built yet\n",
+        ),
+        (
+            &["build"],
+            b"explicit; main : Int := 7;",
             1,
             "refused: form not built yet\n",
         ),
