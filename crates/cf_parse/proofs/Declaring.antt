@@ -1,17 +1,17 @@
 -- The actions that make declarations and programs, from values that are taken one after the other.
-use Rattle.std.proofs.Common.{◌≡◌, ◌∙◌, refl, ap, sym, subst, ℕ, Bool, true, false, List, [], ◌∷◌, ◌++◌, drop, map, reverse}
+use Rattle.std.proofs.Common.{◌≡◌, ◌∙◌, refl, ap, sym, subst, Bool, true, false, List, [], ◌∷◌, ◌++◌, drop, map, reverse}
 use Rattle.std.proofs.lemmas.List.{reverse-append}
 use Rattle.cf_base.specs.declared.at.At.{At}
 use Rattle.cf_tree.specs.declared.decls.CtorTree as ctors
 use Rattle.cf_tree.specs.declared.decls.Decl.{Decl}
-use Rattle.cf_tree.specs.Tree.{CtorTree, DataD, MetaD, ObjectD, Name, Tree}
+use Rattle.cf_tree.specs.Tree.{DataD, MetaD, ObjectD, Name, Tree}
 use Rattle.cf_tree.specs.View.{ctors_of, decls_of}
 use Rattle.cf_parse.proofs.Names.{ctors_listed, decls_listed, name_is, terms_listed}
 use Rattle.cf_parse.proofs.Popping.{joined}
 use Rattle.cf_parse.specs.Evaluation.{first_token, firsts}
 use Rattle.cf_parse.specs.Kinds as kind
 use Rattle.cf_parse.specs.Kinds.{AllFit, Fits}
-use Rattle.cf_parse.specs.Meaning.{Sem, a_program, ctors_in, names_in}
+use Rattle.cf_parse.specs.Meaning.{Sem, a_program, names_in}
 use Rattle.cf_parse.specs.Meaning as meant
 use Rattle.cf_parse.specs.Standing.{IsName, IsPlace}
 use Rattle.cf_parse.specs.Tokens.{Token}

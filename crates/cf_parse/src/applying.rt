@@ -29,12 +29,7 @@ fn with_operand(alloc: Global, at: At, t: Tree, u: Tree) -> Result<Tree, OutOfMe
 }
 
 // A term with operands; the last one comes first.
-fn with_operands(
-    alloc: Global,
-    at: At,
-    t: Tree,
-    operands: Vec<Tree>,
-) -> Result<Tree, OutOfMemory>
+fn with_operands(alloc: Global, at: At, t: Tree, operands: Vec<Tree>) -> Result<Tree, OutOfMemory>
     ensures { IfOk result (λ v. v ≡ meant.operands at t (listed (map term_of (reverse operands.items)))) }
 {
     let mut t = t;

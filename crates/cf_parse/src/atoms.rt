@@ -12,7 +12,9 @@ ghost use Rattle.cf_tree.specs.View.{tree_of};
 use crate::ends::OutOfMemory;
 use crate::parts::missing;
 use crate::source::Source;
-use crate::taking::{put_form, take_brackets, take_optional_term, take_term, take_terms, take_token};
+use crate::taking::{
+    put_form, take_brackets, take_optional_term, take_term, take_terms, take_token,
+};
 use crate::values::{Value, pop, push};
 use crate::words::{with_four, with_none, with_one, with_three, with_two};
 use cf_base::At;

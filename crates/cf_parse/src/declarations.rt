@@ -90,7 +90,12 @@ impl Source<'_> {
     }
 
     // A data type: its name, the names of its parameters and its constructors; both lists have the last one first.
-    fn data_of(&self, name: usize, params: Vec<usize>, ctors: Vec<CtorTree>) -> Result<Decl, OutOfMemory>
+    fn data_of(
+        &self,
+        name: usize,
+        params: Vec<usize>,
+        ctors: Vec<CtorTree>,
+    ) -> Result<Decl, OutOfMemory>
         ensures { IfOk result (λ d. (p : places.At) (k l m : Sem) → Fits kind.Name (token_of self.now name) → Fits (kind.Many kind.Name) (listed (map (token_of self.now) (reverse params.items))) → decl_sem d ≡ meant.data_decl p (k ∷ token_of self.now name ∷ listed (map (token_of self.now) (reverse params.items)) ∷ l ∷ listed (map ctor_sem (reverse ctors.items)) ∷ m ∷ [])) }
     {
         let mut ctors = ctors;

@@ -1,10 +1,11 @@
 //! Reads the tokens of a text as a program.
 #![tactic(auto)]
 
-mod building;
-mod binding;
+mod actions;
 mod applying;
 mod atoms;
+mod binding;
+mod building;
 mod checking;
 mod declarations;
 mod ends;
@@ -13,10 +14,9 @@ mod lists;
 mod numbers;
 mod parsing;
 mod parts;
-mod reducing;
 mod source;
-mod terms;
 mod taking;
+mod terms;
 #[cfg(test)]
 mod tests;
 mod values;
