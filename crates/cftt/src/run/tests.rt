@@ -86,11 +86,104 @@ fn cores_are_written(rt: HostRuntime) -> Result<(), Fail> {
         (["core"].as_slice(), POWER, POWER_CORE),
         (&["core", "--steps", "1"], POWER_CORE, POWER_CORE),
         (&["core"], "explicit;", "explicit;\n"),
+        (
+            &["core"],
+            "explicit; data Leer := ; data größe (a : ValTy) (b : ValTy) := ;",
+            "explicit;\ndata Leer := ;\ndata größe (_0 : ValTy) (_1 : ValTy) := ;\n",
+        ),
+        (
+            &["core"],
+            "explicit; f : (Int) := (fn (x : Int). (fn (_ : Int). (x)) @ suc (suc #1)); -- the end",
+            "explicit;\nf : Int := fn (_0 : Int). (fn (_1 : Int). _0) @ #3;\n",
+        ),
     ] {
         let seen = run(&rt, words, text.as_bytes(), &SOUND)?;
         assert_eq!(rt; seen.end, DONE);
         assert_eq!(rt; seen.written.as_slice(), core.as_bytes());
         assert_eq!(rt; seen.told.len(), 0);
+    }
+    Ok(())
+}
+
+// Bodies as they are printed, below `Seq` and `f`.
+const FORMS: [&str; 67] = [
+    "f",
+    "MetaTy",
+    "ValTy",
+    "CompTy",
+    "Ty",
+    "Unit",
+    "unit",
+    "Bool",
+    "true",
+    "false",
+    "Nat",
+    "Int",
+    "Flag[]",
+    "Seq[Int]",
+    "0",
+    "-9223372036854775808",
+    "9223372036854775807",
+    "#0",
+    "#3",
+    "suc f",
+    "suc (suc f)",
+    "Pi (_0 : Nat) -> Pi (_1 : _0) -> _0",
+    "\\(_0 : Nat). \\(_1 : Nat). _1",
+    "Sig (_0 : Nat), f",
+    "fn (_0 : Int). _0",
+    "mlet _0 : Nat := #0; _0",
+    "let _0 : V Int := 1; _0",
+    "f #0 unit",
+    "f (f f)",
+    "(\\(_0 : Nat). _0) (suc f)",
+    "(fn (_0 : Int). _0) @ 1",
+    "(f @ 1) f",
+    "f Flag[] (f f)",
+    "pair (Sig (_0 : Nat), Unit) f unit",
+    "fst f",
+    "snd (fst f)",
+    "unitrec (\\(_0 : Unit). Nat) f unit",
+    "boolrec f #0 f true",
+    "natrec f f (suc f) #1",
+    "List Nat",
+    "nil Nat",
+    "cons f (nil Nat)",
+    "listrec f f f (nil Nat)",
+    "^(V Int)",
+    "^^f",
+    "<Int => V Int>",
+    "~<f>",
+    "~(f f)",
+    "V Int",
+    "C (Int => V Int)",
+    "Int => Int => Int",
+    "(Int => Int) => Int",
+    "fail (V Int)",
+    "add 1 -2",
+    "sub f 2",
+    "mul f 2",
+    "div f 2",
+    "rem f 2",
+    "eq f 2",
+    "lt (lt 1 2) 3",
+    "f @ 1 @ -2",
+    "f @ (f @ 1)",
+    "(f f) @ 1",
+    "con Cons[Int](1, con Nil[Int]())",
+    "case con Nil[Int]() : V Int of { }",
+    "case con Nil[Int]() : V Int of { Nil . 0 | Cons _0 _1 . _0 }",
+    "letrec _0 : Int => V Int := fn (_1 : Int). _0 @ _1; _0 @ 1",
+];
+
+#[test]
+fn printed_forms_are_their_own_cores(rt: HostRuntime) -> Result<(), Fail> {
+    for body in FORMS {
+        let text = format!(in rt.alloc();
+            "explicit;\ndata Seq (_0 : ValTy) := Nil () | Cons (_0, Seq[_0]);\nmeta f : Nat := #0;\nx : Int := {body};\n"
+        )?;
+        let seen = run(&rt, &["core"], text.as_bytes(), &SOUND)?;
+        assert_eq!(rt; seen.written.as_slice(), text.as_bytes(), "{body}");
     }
     Ok(())
 }
