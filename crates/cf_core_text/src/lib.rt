@@ -17,8 +17,6 @@ mod pieces;
 mod printing;
 mod scopes;
 mod spelling;
-#[cfg(test)]
-mod tests;
 mod writing;
 
 pub use cf_base::NoMemory;
