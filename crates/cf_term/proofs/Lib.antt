@@ -7,3 +7,4 @@ pub mod Measured
 pub mod Compared
 pub mod Rooted
 pub mod Equal
+mod Examples

@@ -9,3 +9,6 @@ pub mod Same
 pub mod Numbered
 pub mod Laws
 pub mod Roots
+pub mod Evaluation
+pub mod NormalForms
+pub mod Reductions
