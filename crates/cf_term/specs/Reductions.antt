@@ -1,6 +1,6 @@
 -- Reductions, at any place of a term. Nothing here computes or counts.
 use Rattle.std.specs.Prelude.{◌≡◌, ℕ, zero, suc, List, Option, Some, None}
-use Rattle.cf_term.specs.Core.{Tm, var, node, Tms, nil, cons, Head, Part, parts, first_part, rest_parts}
+use Rattle.cf_term.specs.Core.{Tm, var, node, Tms, cons, Head, Part, parts, first_part, rest_parts}
 use Rattle.cf_term.specs.Forms.{Quote, Splice}
 use Rattle.cf_term.specs.Substitution.{rename}
 use Rattle.cf_term.specs.Evaluation.{contract}
