@@ -1,0 +1,7 @@
+mod Answered
+mod Renamed
+mod Settled
+mod Spending
+mod Steps
+mod Reached
+mod Written

@@ -1,0 +1,38 @@
+-- What holds of evaluation and of normal forms.
+use Rattle.std.specs.Prelude.{◌≡◌, ◌≤◌, ℕ, Option}
+use Rattle.cf_term.specs.Core.{Tm}
+use Rattle.cf_term.specs.Same.{bare}
+use Rattle.cf_term.specs.Substitution.{rename}
+use Rattle.cf_term.specs.Evaluation.{Out, Done, Spent, Deep, evaluate, IsValue}
+use Rattle.cf_term.specs.NormalForms.{read_back, normal_form}
+use Rattle.cf_term.specs.Reductions.{Reaches}
+
+-- an answer with its value renamed
+abbrev pub renamed_out : (ℕ → ℕ) → Out → Out
+renamed_out f (Done v k) = Done (rename f v) k
+renamed_out f Spent = Spent
+renamed_out f Deep = Deep
+
+-- a renamed term has the renamed value, by the same steps
+abbrev pub EvaluationRenames : Type 0
+EvaluationRenames = (f : ℕ → ℕ) (k d : ℕ) (t : Tm) → evaluate k d (rename f t) ≡ renamed_out f (evaluate k d t)
+
+-- what evaluation answers evaluates to itself, in no step
+abbrev pub ValuesStay : Type 0
+ValuesStay = (t : Tm) (k d : ℕ) (v : Tm) (l : ℕ) → evaluate k d t ≡ Done v l → IsValue v
+
+-- no more steps are left than were given
+abbrev pub EvaluationSpends : Type 0
+EvaluationSpends = (t : Tm) (k d : ℕ) (v : Tm) (l : ℕ) → evaluate k d t ≡ Done v l → l ≤ k
+
+-- what evaluation answers is reached by reductions
+abbrev pub EvaluationReaches : Type 0
+EvaluationReaches = (t : Tm) (k d : ℕ) (v : Tm) (l : ℕ) → evaluate k d t ≡ Done v l → (known : ℕ → Option Tm) → Reaches known t v
+
+-- what is written of a value is reached by reductions
+abbrev pub ReadingReaches : Type 0
+ReadingReaches = (v : Tm) (k d : ℕ) (t : Tm) (l : ℕ) → read_back k d v ≡ Done t l → (known : ℕ → Option Tm) → Reaches known v t
+
+-- a normal form is reached by reductions
+abbrev pub NormalFormReaches : Type 0
+NormalFormReaches = (t : Tm) (k d : ℕ) (u : Tm) (l : ℕ) → normal_form k d t ≡ Done u l → (known : ℕ → Option Tm) → Reaches known (bare t) u

@@ -1,0 +1,40 @@
+//! Laws of evaluation and of normal forms, each proved as the contract of a function that does nothing.
+//!
+//! Evaluation counts, and substitutes in a fixed order. Reductions do neither: a law here says that what evaluation answers
+//! is reached by them.
+#![tactic(auto)]
+
+ghost use Rattle.cf_reduction.specs.Laws.{EvaluationReaches, EvaluationRenames, EvaluationSpends, NormalFormReaches, ReadingReaches, ValuesStay};
+
+/// Evaluation goes through a renaming: the same steps, and the renamed value.
+pub fn evaluation_renames()
+    ensures { EvaluationRenames }
+{
+    cf_term::renaming_of_substituted();
+    cf_term::substitution_of_renamed();
+}
+
+/// A value evaluates to itself, in no step.
+pub fn values_stay()
+    ensures { ValuesStay }
+{}
+
+/// No evaluation leaves more steps than it was given.
+pub fn evaluation_spends()
+    ensures { EvaluationSpends }
+{}
+
+/// A value is reached from its term by reductions, whatever variables are defined.
+pub fn evaluation_reaches()
+    ensures { EvaluationReaches }
+{}
+
+/// What is read back of a value is reached from it by reductions.
+pub fn reading_reaches()
+    ensures { ReadingReaches }
+{}
+
+/// A normal form is reached from its term by reductions, marks aside.
+pub fn normal_form_reaches()
+    ensures { NormalFormReaches }
+{}
