@@ -260,16 +260,16 @@ kept s i h = (means no_module no_config Nothing s i h).1
 
 -- ---- what a call answers
 
-overfull : (c : Config) (rest : Code) (s : State) (e : Effect) → IsOverfull e → GoesOver c rest (as_move c rest s e)
-overfull c rest s (Leaves t) h = (t, refl, h)
-overfull c rest s (Trapping k) h = absurd h
-overfull c rest s Lost h = absurd h
+overfull : (c : Config) (rest : Code) (s : State) (e : Effect) → KeptBy s e → IsOverfull e → GoesOver c rest (as_move c rest s e) s
+overfull c rest s (Leaves t) k h = (t, refl, h, k)
+overfull c rest s (Trapping x) k h = absurd h
+overfull c rest s Lost k h = absurd h
 
-pub follows_is : (r : Outcome) (c : Config) (rest : Code) (move : Move) (e : Effect) (old new : State) → move ≡ as_move c rest old e → Ends r e old new → Follows r c rest move old new
-follows_is Goes c rest move e old new m h = m ∙ ap (as_move c rest old) h
-follows_is Full c rest move e old new m h = (subst (GoesOver c rest) (sym m) (overfull c rest old e h.0), h.1)
-follows_is (Traps k) c rest move e old new m h = (m ∙ ap (as_move c rest old) h.0, h.1)
-follows_is Stuck c rest move e old new m h = (m ∙ ap (as_move c rest old) h.0, h.1)
+pub follows_is : (r : Outcome) (c : Config) (rest : Code) (move : Move) (e : Effect) (old new : State) → Means c rest old move e → Ends r e old new → Follows r c rest move old new
+follows_is Goes c rest move e old new m h = m.0 ∙ ap (as_move c rest old) h
+follows_is Full c rest move e old new m h = (subst (λ v. GoesOver c rest v old) (sym m.0) (overfull c rest old e m.1 h.0), h.1)
+follows_is (Traps k) c rest move e old new m h = (m.0 ∙ ap (as_move c rest old) h.0, h.1)
+follows_is Stuck c rest move e old new m h = (m.0 ∙ ap (as_move c rest old) h.0, h.1)
 
 pub keeps_is : (r : Outcome) (e : Effect) (old new : State) → KeptBy old e → Ends r e old new → KeepsWhereItGoes r old new
 keeps_is Goes e old new k h = subst (KeptBy old) h k

@@ -39,17 +39,6 @@ step_of m c rest i s = plain m (pages_of s.memory) (showing c s) s.operands.abov
 abbrev pub move_to : Config → Code → State → Move
 move_to c rest s = goes_at (showing c s) s.operands.above rest
 
--- the step is to a state with more words than there may be
-abbrev pub GoesOver : Config → Code → Move → Type 0
-GoesOver c rest move = (s : State) × (move ≡ move_to c rest s) × IsOver s.operands
-
--- a step is this one
-abbrev pub Follows : Outcome → Config → Code → Move → (old new : State) → Type 0
-Follows Goes c rest move old new = move ≡ move_to c rest new
-Follows Full c rest move old new = GoesOver c rest move × SameStore old new
-Follows (Traps k) c rest move old new = (move ≡ Trapped (kind_of k) (store_of old)) × SameStore old new
-Follows Stuck c rest move old new = (move ≡ NoRule) × SameStore old new
-
 -- the length of a memory, where there is one
 abbrev pub length_of : Option (List ℕ) → Option ℕ
 length_of None = None
@@ -65,6 +54,17 @@ pub record Keeps (old new : State) : Type 0 where
   pub local_room : new.locals.room ≡ old.locals.room
   pub locals : length new.locals.current ≡ length old.locals.current
   pub size : length_of new.memory ≡ length_of old.memory
+
+-- the step is to a state with more words than there may be, which keeps the rest
+abbrev pub GoesOver : Config → Code → Move → (old : State) → Type 0
+GoesOver c rest move old = (s : State) × (move ≡ move_to c rest s) × IsOver s.operands × Keeps old s
+
+-- a step is this one
+abbrev pub Follows : Outcome → Config → Code → Move → (old new : State) → Type 0
+Follows Goes c rest move old new = move ≡ move_to c rest new
+Follows Full c rest move old new = GoesOver c rest move old × SameStore old new
+Follows (Traps k) c rest move old new = (move ≡ Trapped (kind_of k) (store_of old)) × SameStore old new
+Follows Stuck c rest move old new = (move ≡ NoRule) × SameStore old new
 
 -- that is so where a step was made
 abbrev pub KeepsWhereItGoes : Outcome → (old new : State) → Type 0

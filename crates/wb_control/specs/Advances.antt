@@ -1,0 +1,69 @@
+-- A step of a run is a step of the definition of execution.
+use Rattle.std.specs.Prelude.{◌≡◌, ℕ, ◌<◌, Bool, true, false, Some, slice_get}
+use Rattle.wb_syntax.specs.declared.syntax.Instr.{Instr}
+use Rattle.wb_syntax.specs.declared.syntax.Instr.TheVariants.{Block, Loop, If, Else, End, Br, BrIf, BrTable, Return, Call, I32Const, I64Const}
+use Rattle.wb_syntax.specs.declared.syntax.Func.{Func}
+use Rattle.wb_syntax.specs.declared.syntax.Module.{Module}
+use Rattle.wb_syntax.specs.Syntax.{Code}
+use Rattle.wb_syntax.specs.Execute.{Config, Goes, Finishes, Traps, NoRule, machine_step}
+use Rattle.wb_syntax.specs.Runs.{words_of}
+use Rattle.wb_plain.specs.Effects.{State, kind_of, SameStore}
+use Rattle.wb_plain.specs.Follows.{store_of, length_of, Keeps, step_of, move_to}
+use Rattle.wb_control.specs.Changes.{Run, Fits, words_in, results_of, at_place}
+use Rattle.wb_control.specs.Stands.{Stands}
+use Rattle.wb_control.specs.declared.run.Flow.{Flow}
+use Rattle.wb_control.specs.declared.run.Flow.TheVariants.{Goes as FlowGoes, Full as FlowFull, Finishes as FlowFinishes, Traps as FlowTraps, Stuck as FlowStuck}
+
+-- ---- instructions
+
+-- a control instruction
+abbrev pub is_control : Instr → Bool
+is_control (Block t) = true
+is_control (Loop t) = true
+is_control (If t) = true
+is_control Else = true
+is_control End = true
+is_control (Br l) = true
+is_control (BrIf l) = true
+is_control (BrTable ls l) = true
+is_control Return = true
+is_control (Call x) = true
+is_control _ = false
+
+-- a constant, which is a value and takes no step
+abbrev pub is_constant : Instr → Bool
+is_constant (I32Const z) = true
+is_constant (I64Const z) = true
+is_constant _ = false
+
+-- no constant stands at the place of a run
+abbrev pub IsSettled : Module → Run → Type 0
+IsSettled m r = (f : Func) (i : Instr) → slice_get m.funcs r.place.func ≡ Some f → slice_get f.body r.place.at ≡ Some i → is_constant i ≡ false
+
+-- ---- an instruction that is no control instruction
+
+-- the run in this state
+abbrev pub in_state : Run → State → Run
+in_state r s = record r { state = s }
+
+-- the run goes on behind an instruction in the state that its step leaves, or it does not
+abbrev pub Straightens : Flow → Instr → (next : ℕ) → (old new : Run) → Type 0
+Straightens FlowGoes i next old new =
+    (new ≡ at_place (in_state old new.state) next) × Fits new × Keeps old.state new.state
+    × ((m : Module) (c : Config) (rest : Code) → step_of m c rest i old.state ≡ move_to c rest new.state)
+Straightens FlowFull i next old new =
+    (m : Module) (c : Config) (rest : Code) → (s : State) × (step_of m c rest i old.state ≡ move_to c rest s) × Keeps old.state s × (old.state.operands.room < words_in (in_state old s))
+Straightens (FlowFinishes w) i next old new = ⊥
+Straightens (FlowTraps k) i next old new = ((m : Module) (c : Config) (rest : Code) → step_of m c rest i old.state ≡ Traps (kind_of k) (store_of old.state)) × SameStore old.state new.state
+Straightens FlowStuck i next old new = ((m : Module) (c : Config) (rest : Code) → step_of m c rest i old.state ≡ NoRule) × SameStore old.state new.state
+
+-- ---- any instruction
+
+-- the step of the definition is this one
+abbrev pub Advances : Module → (room : ℕ) → Config → Flow → (old new : Run) → Type 0
+Advances m room c FlowGoes old new =
+    (d : Config) × (machine_step m room c ≡ Goes d) × Stands m new d × Fits new × (length_of new.state.memory ≡ length_of old.state.memory)
+Advances m room c FlowFull old new = (d : Config) × (machine_step m room c ≡ Goes d) × (old.state.operands.room < words_of d)
+Advances m room c (FlowFinishes w) old new = (machine_step m room c ≡ Finishes (results_of w) (store_of old.state)) × SameStore old.state new.state
+Advances m room c (FlowTraps k) old new = (machine_step m room c ≡ Traps (kind_of k) (store_of old.state)) × SameStore old.state new.state
+Advances m room c FlowStuck old new = (machine_step m room c ≡ NoRule) × SameStore old.state new.state

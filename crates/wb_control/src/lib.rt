@@ -1,0 +1,21 @@
+//! Control: what a machine does at constructs, branches, calls and the ends of functions.
+//!
+//! A [`Run`] has a program counter into the flat body of a function; where its constructs lead is known in advance
+//! (`wb_code`). Labels and the frames that wait stand on two piles beside the operands and the locals ([`wb_state`]).
+//!
+//! `specs/Stands` says for which configuration of the definition of execution (`wb_syntax`, `Execute`) a run stands: the
+//! code that is left behind the program counter, cut into levels, is what the labels of the configuration have, and the
+//! words between two floors are the words below a label.
+#![tactic(auto)]
+
+mod advancing;
+mod branches;
+mod calls;
+mod constructs;
+mod controlling;
+mod piles;
+mod run;
+
+pub use advancing::advance;
+pub use piles::{Callers, Labels};
+pub use run::{Caller, Flow, Label, Place, Run};
