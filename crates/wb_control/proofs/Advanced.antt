@@ -1,23 +1,23 @@
 -- A step of a run is a step of the definition of execution.
 use Rattle.std.proofs.Common.{◌≡◌, ℕ, zero, suc, ◌+◌, ◌<◌, List, [], ◌∷◌, length, drop, arith, refl, sym, ap, subst, ◌∙◌, add-one}
-use Rattle.std.specs.Prelude.{true, false, Some, None, slice_get}
+use Rattle.std.specs.Prelude.{Bool, true, false, Some, None, slice_get}
 use Rattle.wb_syntax.specs.declared.syntax.Instr.{Instr}
 use Rattle.wb_syntax.specs.declared.syntax.Instr.TheVariants.{Block, Loop, If, Else, End, Br, BrIf, BrTable, Return, Call, I32Const, I64Const}
 use Rattle.wb_syntax.specs.declared.syntax.Func.{Func}
 use Rattle.wb_syntax.specs.declared.syntax.Module.{Module}
 use Rattle.wb_syntax.specs.Syntax.{Code, Nothing, Then, Plain}
 use Rattle.wb_syntax.specs.Nesting.{Level, put, put_instr, levels}
-use Rattle.wb_syntax.specs.Execute.{Word, Label as Opened, Frame, Config, Move, Goes, settle, step_at, machine_step}
-use Rattle.wb_syntax.specs.Runs.{words_of}
+use Rattle.wb_syntax.specs.Execute.{Word, Label as Opened, Frame, Config, Move, Goes, Finishes, Traps, NoRule, settle, step_at, machine_step}
+use Rattle.wb_syntax.specs.Runs.{words_of, before_step}
 use Rattle.wb_code.specs.declared.leading.Jump.{Jump}
 use Rattle.wb_state.specs.Stack.{IsOver}
 use Rattle.wb_plain.specs.Effects.{State, SameStore}
-use Rattle.wb_plain.specs.Follows.{IsStraight, pages_of, length_of, Keeps, step_of}
+use Rattle.wb_plain.specs.Follows.{IsStraight, pages_of, length_of, Keeps, step_of, is_step}
 use Rattle.wb_control.specs.Piles.{Label}
-use Rattle.wb_control.specs.Changes.{Run, Change, Leads, Returns, Fails, Fits, words_in, at_place, IsTooFull, Comes}
+use Rattle.wb_control.specs.Changes.{Run, Change, Leads, Returns, Fails, Fits, words_in, at_place, IsTooFull, Comes, SameRooms}
 use Rattle.wb_control.specs.Steps.{controlled}
 use Rattle.wb_control.specs.Stands.{AllNested, AllLead, Open, shown, Stands}
-use Rattle.wb_control.specs.Advances.{is_control, is_constant, in_state, Straightens, Advances}
+use Rattle.wb_control.specs.Advances.{is_control, is_constant, in_state, Straightens, Advances, FitsOn, Answers, HasStep}
 use Rattle.wb_control.specs.declared.run.Flow.{Flow}
 use Rattle.wb_control.specs.declared.run.Flow.TheVariants.{Goes as FlowGoes, Full as FlowFull, Finishes as FlowFinishes, Traps as FlowTraps, Stuck as FlowStuck}
 use Rattle.wb_control.proofs.Levels.{at_func, read, goes_on}
@@ -76,7 +76,9 @@ came : (m : Module) (room : ℕ) (c : Config) (flow : Flow) (ch : Change) (old n
 came m room c FlowGoes ch old new s h =
     let q = subst (IsStep m old (machine_step m room c)) h.0 s in
     (q.0, q.1, q.2, h.1, ap length_of h.2.0)
-came m room c FlowFull ch old new s h = too_full m old.state.operands.room old (machine_step m room c) ch s h
+came m room c FlowFull ch old new s h =
+    let q = too_full m old.state.operands.room old (machine_step m room c) ch s h.0 in
+    (q.0, q.1, q.2, h.1)
 came m room c (FlowFinishes w) ch old new s h = (subst (IsStep m old (machine_step m room c)) h.0 s, h.1)
 came m room c (FlowTraps k) ch old new s h = absurd h
 came m room c FlowStuck ch old new s h = (subst (IsStep m old (machine_step m room c)) h.0 s, h.1)
@@ -86,6 +88,34 @@ control_advances m js room next c flow f i old new e nests leads named there h s
     let n : next ≡ suc old.place.at = e ∙ add-one old.place.at in
     let step = control_step m js room old c f i nests leads named there (controls i h) s in
     came m room c flow (controlled m js next old i) old new (subst (λ x. IsStep m old (machine_step m room c) (controlled m js x old i)) (sym n) step) k
+
+pub rooms_of : (flow : Flow) (ch : Change) (old new : Run) → Comes flow ch old new → SameRooms old new
+rooms_of FlowGoes ch old new h = h.3
+rooms_of FlowFull ch old new h = h.2
+rooms_of (FlowFinishes w) ch old new h = h.2
+rooms_of (FlowTraps k) ch old new h = absurd h
+rooms_of FlowStuck ch old new h = h.2
+
+pub fits_on : (flow : Flow) (ch : Change) (old new : Run) → Comes flow ch old new → FitsOn flow new
+fits_on FlowGoes ch old new h = h.1
+fits_on FlowFull ch old new h = tt
+fits_on (FlowFinishes w) ch old new h = tt
+fits_on (FlowTraps k) ch old new h = tt
+fits_on FlowStuck ch old new h = tt
+
+pub size_of : (flow : Flow) (ch : Change) (old new : Run) → Comes flow ch old new → length_of new.state.memory ≡ length_of old.state.memory
+size_of FlowGoes ch old new h = ap length_of h.2.0
+size_of FlowFull ch old new h = ap length_of h.1.0
+size_of (FlowFinishes w) ch old new h = ap length_of h.1.0
+size_of (FlowTraps k) ch old new h = absurd h
+size_of FlowStuck ch old new h = ap length_of h.1.0
+
+pub straight_fits : (flow : Flow) (i : Instr) (next : ℕ) (old new : Run) → Straightens flow i next old new → FitsOn flow new
+straight_fits FlowGoes i next old new h = h.1
+straight_fits FlowFull i next old new h = tt
+straight_fits (FlowFinishes w) i next old new h = tt
+straight_fits (FlowTraps k) i next old new h = tt
+straight_fits FlowStuck i next old new h = tt
 
 -- ---- other instructions
 
@@ -132,10 +162,10 @@ straight_advances m next c FlowGoes f i old new e named there h k s st =
 straight_advances m next c FlowFull f i old new e named there h k s st =
     let a = straight_at m old c f i named there h k s in
     let d = shaped old a.labels a.callers old.state.operands.above (Then (Plain i) a.rest) in
-    let o = st m d a.rest in
+    let o = st.0 m d a.rest in
     let q : Run = at_place (in_state old o.0) (suc old.place.at) in
     let w = words_least m q (shown q a.rest a.labels a.callers) (a.goes o.0 o.2.below o.2.outer) in
-    (shown q a.rest a.labels a.callers, a.step ∙ o.1, omega (arith, w, o.3))
+    (shown q a.rest a.labels a.callers, a.step ∙ o.1, omega (arith, w, o.3), st.1)
 straight_advances m next c (FlowFinishes w) f i old new e named there h k s st = absurd st
 straight_advances m next c (FlowTraps x) f i old new e named there h k s st =
     let a = straight_at m old c f i named there h k s in
@@ -185,3 +215,33 @@ no_config = record {
 
 pub same_of : (old new : State) → ((m : Module) (c : Config) (rest : Code) → SameStore old new) → SameStore old new
 same_of old new h = h no_module no_config Nothing
+
+-- ---- whether a step follows
+
+pub full_answers : (room : ℕ) (ch : Change) → IsTooFull room ch → Answers ch true
+full_answers room (Leads r) h = refl
+full_answers room (Returns ws) h = refl
+full_answers room Fails h = absurd h
+
+has_change : (m : Module) (room : ℕ) (r : Run) (c : Config) (ch : Change) (b : Bool) → IsStep m r (machine_step m room c) ch → Answers ch b → HasStep m room c b
+has_change m room r c (Leads q) b s h = subst (HasStep m room c) (sym h) (ap (λ v. before_step v c) s.1)
+has_change m room r c (Returns ws) b s h = subst (HasStep m room c) (sym h) (ap (λ v. before_step v c) s)
+has_change m room r c Fails b s h = subst (HasStep m room c) (sym h) (ap (λ v. before_step v c) s)
+
+pub has_control : (m : Module) (js : List (List Jump)) (room next : ℕ) (c : Config) (f : Func) (i : Instr) (r : Run) (b : Bool) → next ≡ r.place.at + 1 → AllNested m → AllLead m js → slice_get m.funcs r.place.func ≡ Some f → slice_get f.body r.place.at ≡ Some i → is_control i ≡ true → Stands m r c → Answers (controlled m js next r i) b → HasStep m room c b
+has_control m js room next c f i r b e nests leads named there h s k =
+    let n : next ≡ suc r.place.at = e ∙ add-one r.place.at in
+    let step = control_step m js room r c f i nests leads named there (controls i h) s in
+    has_change m room r c (controlled m js next r i) b (subst (λ x. IsStep m r (machine_step m room c) (controlled m js x r i)) (sym n) step) k
+
+has_move : (m : Module) (room : ℕ) (c : Config) (move : Move) (b : Bool) → machine_step m room c ≡ move → b ≡ is_step move → HasStep m room c b
+has_move m room c (Goes d) b e h = subst (HasStep m room c) (sym h) (ap (λ v. before_step v c) e)
+has_move m room c (Finishes ws t) b e h = subst (HasStep m room c) (sym h) (ap (λ v. before_step v c) e)
+has_move m room c (Traps k t) b e h = subst (HasStep m room c) (sym h) (ap (λ v. before_step v c) e)
+has_move m room c NoRule b e h = subst (HasStep m room c) (sym h) (ap (λ v. before_step v c) e)
+
+pub has_straight : (m : Module) (c : Config) (f : Func) (i : Instr) (r : Run) (b : Bool) → slice_get m.funcs r.place.func ≡ Some f → slice_get f.body r.place.at ≡ Some i → is_control i ≡ false → is_constant i ≡ false → Stands m r c → ((d : Config) (rest : Code) → b ≡ is_step (step_of m d rest i r.state)) → HasStep m (pages_of r.state.memory) c b
+has_straight m c f i r b named there h k s st =
+    let a = straight_at m r c f i named there h k s in
+    let d = shaped r a.labels a.callers r.state.operands.above (Then (Plain i) a.rest) in
+    has_move m (pages_of r.state.memory) c (step_of m d a.rest i r.state) b a.step (st d a.rest)

@@ -51,7 +51,7 @@ whole_is [] c e = absurd (none_some c e)
 whole_is (l ∷ k ∷ ls) c e = absurd (none_some c e)
 whole_is (l ∷ []) c e = whole_one l.code l.other c e
 
-read_whole : (o : Option (List Level)) (c : Code) → whole o ≡ Some c → o ≡ Some (record { code = c; other = None } ∷ [])
+pub read_whole : (o : Option (List Level)) (c : Code) → whole o ≡ Some c → o ≡ Some (record { code = c; other = None } ∷ [])
 read_whole None c e = absurd (none_some c e)
 read_whole (Some ls) c e = ap Some (whole_is ls c e)
 

@@ -18,3 +18,6 @@ pub mod Arguments
 -- the words of a configuration, and a step of a run
 pub mod Counting
 pub mod Advanced
+-- constants that are put, and how a run begins
+pub mod Constants
+pub mod First

@@ -4,7 +4,7 @@ use Rattle.wb_syntax.specs.Execute.{Word}
 use Rattle.wb_state.specs.Words.{seen}
 use Rattle.wb_state.specs.Stack.{Stack, height_of, with_above, raised, cut, lowest}
 use Rattle.wb_state.specs.Frames.{count_of, left}
-use Rattle.wb_plain.specs.Effects.{with_operands, SameStore}
+use Rattle.wb_plain.specs.Effects.{with_operands, SameStore, SameRoom}
 use Rattle.wb_control.specs.Piles.{Label, Caller}
 use Rattle.wb_state.specs.declared.words.Word.{Word as Held}
 pub use Rattle.wb_control.specs.declared.run.Run.{Run}
@@ -29,6 +29,17 @@ pub record Fits (r : Run) : Type 0 where
   pub callers : r.state.operands.room ≤ 4 * r.callers.room
   pub small : r.state.operands.room ≤ 2 ^ 32
 
+-- there is as much room for labels and locals as for operands, and enough for the frames of so many words
+pub record IsRoomy (r : Run) : Type 0 where
+  pub labels : r.labels.room ≡ r.state.operands.room
+  pub locals : r.state.locals.room ≡ r.state.operands.room
+  pub callers : r.state.operands.room ≤ 4 * r.callers.room
+  pub small : r.state.operands.room ≤ 2 ^ 32
+
+-- for how much there is room is as before
+abbrev pub SameRooms : (old new : Run) → Type 0
+SameRooms old new = SameRoom old.state new.state × (new.labels.room ≡ old.labels.room) × (new.callers.room ≡ old.callers.room)
+
 -- ---- changes
 
 -- what a step of control does
@@ -51,11 +62,11 @@ IsTooFull room _ = ⊥
 
 -- a change is answered so
 abbrev pub Comes : Flow → Change → (old new : Run) → Type 0
-Comes Goes c old new = (c ≡ Leads new) × Fits new × SameStore old.state new.state
-Comes Full c old new = IsTooFull old.state.operands.room c
-Comes (Finishes w) c old new = (c ≡ Returns (results_of w)) × SameStore old.state new.state
+Comes Goes c old new = (c ≡ Leads new) × Fits new × SameStore old.state new.state × SameRooms old new
+Comes Full c old new = IsTooFull old.state.operands.room c × SameStore old.state new.state × SameRooms old new
+Comes (Finishes w) c old new = (c ≡ Returns (results_of w)) × SameStore old.state new.state × SameRooms old new
 Comes (Traps k) c old new = ⊥
-Comes Stuck c old new = (c ≡ Fails) × SameStore old.state new.state
+Comes Stuck c old new = (c ≡ Fails) × SameStore old.state new.state × SameRooms old new
 
 -- ---- constructs
 

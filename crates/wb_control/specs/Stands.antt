@@ -18,6 +18,10 @@ use Rattle.wb_control.specs.Changes.{Run, result_count}
 abbrev pub AllNested : Module → Type 0
 AllNested m = (x : ℕ) (f : Func) → slice_get m.funcs x ≡ Some f → (c : Code) × (nested f.body ≡ Some c)
 
+-- the function that is run has this body
+abbrev pub HasBody : Module → Run → List Instr → Type 0
+HasBody m r b = (f : Func) × (slice_get m.funcs r.place.func ≡ Some f) × (f.body ≡ b)
+
 -- where the constructs of each body lead
 abbrev pub AllLead : Module → List (List Jump) → Type 0
 AllLead m js = (x : ℕ) (f : Func) → slice_get m.funcs x ≡ Some f → (j : List Jump) × (slice_get js x ≡ Some j) × AreJumps f.body j

@@ -2,10 +2,12 @@
 
 ghost use Rattle.std.specs.Prelude.{◌≡◌, false};
 ghost use Rattle.wb_syntax.specs.Execute.{Config};
-ghost use Rattle.wb_plain.specs.Follows.{pages_of};
-ghost use Rattle.wb_control.specs.Changes.{Fits};
+ghost use Rattle.wb_plain.specs.Effects.{SameStore};
+ghost use Rattle.wb_plain.specs.Follows.{pages_of, length_of};
+ghost use Rattle.wb_control.specs.Changes.{Fits, SameRooms};
 ghost use Rattle.wb_control.specs.Stands.{AllNested, AllLead, Stands};
-ghost use Rattle.wb_control.specs.Advances.{is_control, IsSettled, Straightens, Advances};
+ghost use Rattle.wb_control.specs.Advances.{is_control, IsSettled, Straightens, Advances, FitsOn, Answers, HasStep};
+ghost use Rattle.wb_control.specs.Steps.{controlled};
 
 use crate::controlling::control;
 use crate::run::{Flow, Run};
@@ -38,7 +40,9 @@ fn is_control(instr: &Instr) -> bool
 fn straight(run: &mut Run, instr: &Instr, next: usize) -> Flow
     requires fits { Fits run.old }
     requires straight { is_control instr.now ≡ false }
-    ensures { Straightens result instr.now next run.old run.new }
+    ensures straightens { Straightens result instr.now next run.old run.new }
+    ensures size { length_of run.new.state.memory ≡ length_of run.old.state.memory }
+    ensures room { SameRooms run.old run.new }
 {
     match wb_plain::step(&mut run.state, instr) {
         Outcome::Goes => {
@@ -55,7 +59,10 @@ fn straight(run: &mut Run, instr: &Instr, next: usize) -> Flow
 pub fn advance(run: &mut Run, m: &Module, jumps: &[Items<Jump>]) -> Flow
     requires fits { Fits run.old }
     requires settled { IsSettled m.now run.old }
-    ensures { (c : Config) → AllNested m.now → AllLead m.now jumps.now → Stands m.now run.old c → Advances m.now (pages_of run.old.state.memory) c result run.old run.new }
+    ensures advances { (c : Config) → AllNested m.now → AllLead m.now jumps.now → Stands m.now run.old c → Advances m.now (pages_of run.old.state.memory) c result run.old run.new }
+    ensures fits { FitsOn result run.new }
+    ensures size { length_of run.new.state.memory ≡ length_of run.old.state.memory }
+    ensures room { SameRooms run.old run.new }
 {
     let Some(func) = m.funcs.get(run.place.func) else {
         return Flow::Stuck;
@@ -70,5 +77,51 @@ pub fn advance(run: &mut Run, m: &Module, jumps: &[Items<Jump>]) -> Flow
         control(run, m, jumps, instr, next)
     } else {
         straight(run, instr, next)
+    }
+}
+
+/// Whether a control instruction, which stands before `next`, has a step; carries it out.
+fn has_control_step(
+    run: &mut Run,
+    m: &Module,
+    jumps: &[Items<Jump>],
+    instr: &Instr,
+    next: usize,
+) -> bool
+    requires { Fits run.old }
+    ensures step { Answers (controlled m.now jumps.now next run.old instr.now) result }
+    ensures store { SameStore run.old.state run.new.state }
+    ensures room { SameRooms run.old run.new }
+{
+    match control(run, m, jumps, instr, next) {
+        Flow::Stuck => false,
+        Flow::Goes => true,
+        Flow::Full => true,
+        Flow::Finishes(_) => true,
+        Flow::Traps(_) => true,
+    }
+}
+
+/// Whether a step follows, at an instruction that is no constant. Memory and globals stay; the rest of the run is used up.
+pub fn has_step(run: &mut Run, m: &Module, jumps: &[Items<Jump>]) -> bool
+    requires fits { Fits run.old }
+    requires settled { IsSettled m.now run.old }
+    ensures step { (c : Config) → AllNested m.now → AllLead m.now jumps.now → Stands m.now run.old c → HasStep m.now (pages_of run.old.state.memory) c result }
+    ensures store { SameStore run.old.state run.new.state }
+    ensures room { SameRooms run.old run.new }
+{
+    let Some(func) = m.funcs.get(run.place.func) else {
+        return false;
+    };
+    let Some(instr) = func.body.get(run.place.at) else {
+        return false;
+    };
+    let count = func.body.len();
+    prove!(run.place.at < count);
+    let next = run.place.at + 1;
+    if is_control(instr) {
+        has_control_step(run, m, jumps, instr, next)
+    } else {
+        wb_plain::has_step(&mut run.state, instr)
     }
 }

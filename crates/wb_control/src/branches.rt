@@ -9,7 +9,8 @@ use wb_state::{Operands, Word};
 
 /// Takes the topmost word where a result is wanted; None where there is none.
 fn take_result(operands: &mut Operands, wanted: bool) -> Option<Option<Word>>
-    ensures { TakesResult (popped wanted operands.old) result operands.new }
+    ensures takes { TakesResult (popped wanted operands.old) result operands.new }
+    ensures room { operands.new.room ≡ operands.old.room }
 {
     if !wanted {
         return Some(None);

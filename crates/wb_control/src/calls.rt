@@ -58,7 +58,7 @@ fn has_arguments(operands: &Operands, types: &[NumType]) -> bool
 
 /// How many locals these runs have, or the greatest number where there are more.
 #[tactic(auto, using(crate::proofs::Arguments::count_more))]
-fn count_locals(runs: &[LocalRun]) -> u64
+pub(crate) fn count_locals(runs: &[LocalRun]) -> u64
     ensures { result ≡ min (length (expanded runs.now)) (2 ^ 64 - 1) }
 {
     let mut count: u64 = 0;
@@ -70,7 +70,7 @@ fn count_locals(runs: &[LocalRun]) -> u64
 
 /// Adds the locals of these runs, all zero, for which there is room.
 #[tactic(auto, using(crate::proofs::Arguments::zeros_more, crate::proofs::Arguments::count_more))]
-fn add_locals(locals: &mut Locals, runs: &[LocalRun])
+pub(crate) fn add_locals(locals: &mut Locals, runs: &[LocalRun])
     requires { count_of locals.old + length (expanded runs.now) ≤ locals.old.room }
     ensures { locals.new ≡ with_current locals.old (locals.old.current ++ zeros (expanded runs.now)) }
 {

@@ -9,13 +9,17 @@
 #![tactic(auto)]
 
 mod advancing;
+mod beginning;
 mod branches;
 mod calls;
 mod constructs;
 mod controlling;
 mod piles;
 mod run;
+mod settling;
 
-pub use advancing::advance;
+pub use advancing::{advance, has_step};
+pub use beginning::begin;
 pub use piles::{Callers, Labels};
 pub use run::{Caller, Flow, Label, Place, Run};
+pub use settling::{constant_word, settle};

@@ -35,6 +35,13 @@ impl Labels {
         Ok(Labels { items, room })
     }
 
+    /// Takes all off.
+    pub fn clear(&mut self)
+        ensures { self.new ≡ record self.old { items = [] } }
+    {
+        self.items.clear();
+    }
+
     /// Puts one on top.
     pub fn push(&mut self, item: Label)
         requires { length self.old.items < self.old.room }
@@ -104,6 +111,13 @@ impl Callers {
     {
         let items = Vec::with_capacity(alloc, room)?;
         Ok(Callers { items, room })
+    }
+
+    /// Takes all off.
+    pub fn clear(&mut self)
+        ensures { self.new ≡ record self.old { items = [] } }
+    {
+        self.items.clear();
     }
 
     /// Puts one on top.

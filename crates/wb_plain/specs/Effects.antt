@@ -223,6 +223,10 @@ kind_of OfOutOfBounds = OutOfBounds
 abbrev pub SameStore : (old new : State) → Type 0
 SameStore old new = (new.memory ≡ old.memory) × (new.globals ≡ old.globals)
 
+-- for how many words and locals there is room is as before
+abbrev pub SameRoom : (old new : State) → Type 0
+SameRoom old new = (new.operands.room ≡ old.operands.room) × (new.locals.room ≡ old.locals.room)
+
 -- more words would be left than there may be
 abbrev pub IsOverfull : Effect → Type 0
 IsOverfull (Leaves s) = IsOver s.operands
@@ -231,6 +235,19 @@ IsOverfull _ = ⊥
 -- an effect ends so
 abbrev pub Ends : Outcome → Effect → (old new : State) → Type 0
 Ends Goes e old new = e ≡ Leaves new
-Ends Full e old new = IsOverfull e × SameStore old new
-Ends (Traps k) e old new = (e ≡ Trapping (kind_of k)) × SameStore old new
-Ends Stuck e old new = (e ≡ Lost) × SameStore old new
+Ends Full e old new = IsOverfull e × SameStore old new × SameRoom old new
+Ends (Traps k) e old new = (e ≡ Trapping (kind_of k)) × SameStore old new × SameRoom old new
+Ends Stuck e old new = (e ≡ Lost) × SameStore old new × SameRoom old new
+
+-- ---- whether there is an effect
+
+-- an instruction has an effect, a trap counted
+abbrev pub has_effect : Effect → Bool
+has_effect Lost = false
+has_effect _ = true
+
+-- instructions that write to memory or to a global
+abbrev pub writes_store : Instr → Bool
+writes_store (GlobalSet x) = true
+writes_store (Store op align offset) = true
+writes_store _ = false

@@ -1,5 +1,5 @@
 -- How what an instruction does to a state is a step of the definition of execution.
-use Rattle.std.specs.Prelude.{◌≡◌, ℕ, ◌/◌, List, length, Option, Some, None}
+use Rattle.std.specs.Prelude.{◌≡◌, ℕ, ◌/◌, Bool, true, false, List, length, Option, Some, None}
 use Rattle.wb_syntax.specs.Syntax.{Code}
 use Rattle.wb_plain.specs.Syntax.{Instr, Br, BrIf, BrTable, Return, Call, Module}
 use Rattle.wb_syntax.specs.Execute.{TheStore, Config, Move, Traps as Trapped, NoRule, page, goes_at, plain}
@@ -70,3 +70,8 @@ Follows Stuck c rest move old new = (move ≡ NoRule) × SameStore old new
 abbrev pub KeepsWhereItGoes : Outcome → (old new : State) → Type 0
 KeepsWhereItGoes Goes old new = Keeps old new
 KeepsWhereItGoes _ old new = Unit {0}
+
+-- a step follows
+abbrev pub is_step : Move → Bool
+is_step NoRule = false
+is_step _ = true

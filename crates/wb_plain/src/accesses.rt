@@ -7,7 +7,7 @@ ghost use Rattle.wb_syntax.specs.Numbers.{bits_of};
 ghost use Rattle.wb_syntax.specs.Execute.{extended};
 ghost use Rattle.wb_state.specs.Bytes.{bytes_in};
 ghost use Rattle.wb_plain.specs.Rows.{sign_of, load_types, store_types};
-ghost use Rattle.wb_plain.specs.Effects.{Ends, load_typed, store_typed, size_in, grow_in};
+ghost use Rattle.wb_plain.specs.Effects.{Ends, SameStore, SameRoom, has_effect, load_typed, store_typed, size_in, grow_in};
 
 use crate::numeric::put;
 use crate::operations::{LoadKind, load_kind, store_kind};
@@ -99,6 +99,25 @@ pub fn store(state: &mut State, op: u8, offset: u32) -> Outcome
     } else {
         Outcome::Traps(TrapKind::OutOfBounds)
     }
+}
+
+/// Whether a store has an effect, a trap counted; takes its operands alone.
+#[tactic(auto, using(crate::proofs::Writing::written_has))]
+pub fn can_store(state: &mut State, op: u8, offset: u32) -> bool
+    ensures effect { result ≡ has_effect (store_typed offset state.old (store_types (row_at op))) }
+    ensures store { SameStore state.old state.new }
+    ensures room { SameRoom state.old state.new }
+{
+    let Some(kind) = store_kind(op) else {
+        return false;
+    };
+    if state.memory.is_none() {
+        return false;
+    }
+    if state.operands.take(kind.takes).is_none() {
+        return false;
+    }
+    state.operands.take(NumType::I32).is_some()
 }
 
 /// Puts the size of the memory on top, in pages.

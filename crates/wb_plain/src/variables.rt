@@ -1,7 +1,7 @@
 //! Locals and globals.
 
-ghost use Rattle.std.specs.Prelude.{slice_get};
-ghost use Rattle.wb_plain.specs.Effects.{Ends, get, local_set, local_tee, global_set};
+ghost use Rattle.std.specs.Prelude.{◌≡◌, slice_get};
+ghost use Rattle.wb_plain.specs.Effects.{Ends, SameStore, SameRoom, has_effect, get, local_set, local_tee, global_set};
 
 use crate::numeric::put;
 use crate::outcome::Outcome;
@@ -64,4 +64,20 @@ pub fn global_set(state: &mut State, index: u32) -> Outcome
         return Outcome::Stuck;
     }
     Outcome::Goes
+}
+
+/// Whether setting a global has an effect; takes its operand alone.
+#[tactic(auto, using(crate::proofs::Writing::set_has))]
+pub fn can_set_global(state: &mut State, index: u32) -> bool
+    ensures effect { result ≡ has_effect (global_set index state.old state.old.operands.above) }
+    ensures store { SameStore state.old state.new }
+    ensures room { SameRoom state.old state.new }
+{
+    let Some(word) = state.operands.take_any() else {
+        return false;
+    };
+    match state.globals.get(index) {
+        None => false,
+        Some(held) => held.ty() == word.ty(),
+    }
 }

@@ -91,6 +91,14 @@ impl Locals {
         self.base = base;
     }
 
+    /// Takes all locals off, those of all frames.
+    pub fn clear(&mut self)
+        ensures { self.new ≡ none self.old.room }
+    {
+        self.words.clear();
+        self.base = 0;
+    }
+
     /// Adds these words to the locals of the innermost frame.
     pub fn add_all(&mut self, words: &[Word])
         requires { count_of self.old + length words.now ≤ self.old.room }

@@ -61,6 +61,7 @@ impl Operands {
     pub fn take(&mut self, ty: NumType) -> Option<u64>
         ensures taken { TakesTo (take_word ty self.old) result self.new }
         ensures fits { IfSome result (λ n. n < 2 ^ bits_of ty) }
+        ensures room { self.new.room ≡ self.old.room }
     {
         match self.take_any() {
             None => None,
@@ -70,7 +71,8 @@ impl Operands {
 
     /// Puts a word on top; says whether there was room, and else changes nothing.
     pub fn put(&mut self, word: Word) -> bool
-        ensures { PutsTo (put (seen word) self.old) result self.new }
+        ensures puts { PutsTo (put (seen word) self.old) result self.new }
+        ensures room { self.new.room ≡ self.old.room }
     {
         if self.words.len() == self.most {
             return false;
@@ -81,7 +83,8 @@ impl Operands {
 
     /// How many words there are.
     pub fn height(&self) -> usize
-        ensures { result ≡ height_of self.now }
+        ensures height { result ≡ height_of self.now }
+        ensures within { result ≤ self.now.most }
     {
         self.words.len()
     }
@@ -128,6 +131,15 @@ impl Operands {
     {
         self.words.truncate(height);
         self.floor = floor;
+    }
+
+    /// Takes all words off, and gives all room back.
+    pub fn clear(&mut self)
+        ensures { self.new ≡ empty self.old.room }
+    {
+        self.words.clear();
+        self.floor = 0;
+        self.most = self.room;
     }
 
     /// The topmost words above the floor, the top last, where there are so many.

@@ -1,4 +1,4 @@
-use Rattle.std.proofs.Common.{◌≡◌, ◌+◌, ◌≤◌, List, arith, length, ap}
+use Rattle.std.proofs.Common.{◌≡◌, ◌+◌, ◌≤◌, List, arith, length, refl, ap}
 use Rattle.wb_syntax.specs.declared.syntax.LocalRun.{LocalRun}
 use Rattle.wb_syntax.specs.Syntax.{expanded}
 use Rattle.wb_state.specs.Stack.{Stack}
@@ -10,8 +10,11 @@ returns-then-not-reserve c =
     let f = c.args.func.now in
     let h = c.if-not-reserve.ensures in
     let e : length (expanded c.as_slice-runs.result.now) ≡ length (expanded f.locals) = ap (λ (rs : List LocalRun). length (expanded rs)) c.as_slice-runs.ensures in
-    let l : c.saturating_add.result ≤ length (expanded f.locals) + 4 = omega (arith, e, c.count_locals.ensures, c.saturating_add.ensures) in
-    too_full c.args.index c.args.next c.saturating_add.result f c.args.ty.now c.args.run.now c.requires.fits c.requires.arguments l h.0
+    let l : c.saturating_add.result ≤ length (expanded f.locals) + 4 = omega (arith, e, c.count_locals.ensures, c.saturating_add.ensures) in (
+      too_full c.args.index c.args.next c.saturating_add.result f c.args.ty.now c.args.run.now c.requires.fits c.requires.arguments l h.0,
+      (refl, refl),
+      ((ap (λ (s : Stack). s.room) h.1, refl), refl, refl),
+    )
 
 pub returns-in_default : goal.returns-in_default
 returns-in_default c =
