@@ -1,0 +1,18 @@
+use Rattle.wb_machine.proofs.Steps.{full_stop, limited, stuck_stop}
+use Rattle.wb_machine.proofs.calling.stop.Goals as goal
+
+pub returns-then-not-settle-clause-ends : goal.returns-then-not-settle-clause-ends
+returns-then-not-settle-clause-ends c =
+    λ d nests leads s. full_stop c.args.m.now d c.args.run.now c.settle.new.run (c.if-not-settle.ensures.settles d s)
+
+pub returns-then-has_step-clause-ends : goal.returns-then-has_step-clause-ends
+returns-then-has_step-clause-ends c =
+    λ d nests leads s.
+    let h = c.if-not-settle.ensures.settles d s in
+    limited c.args.m.now d c.args.run.now c.settle.new.run c.has_step.new.run c.settle.ensures.store c.has_step.ensures.store h (c.if-has_step.ensures.step d nests leads h.0)
+
+pub returns-else-has_step-clause-ends : goal.returns-else-has_step-clause-ends
+returns-else-has_step-clause-ends c =
+    λ d nests leads s.
+    let h = c.if-not-settle.ensures.settles d s in
+    stuck_stop c.args.m.now d c.args.run.now c.settle.new.run c.has_step.new.run c.settle.ensures.store h (c.if-has_step.ensures.step d nests leads h.0)
