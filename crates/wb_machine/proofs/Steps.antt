@@ -1,11 +1,11 @@
 -- One step of a run, and the rest of it.
 use Rattle.std.proofs.Common.{◌≡◌, ℕ, zero, suc, ◌+◌, ◌-◌, ◌/◌, ◌<◌, ◌≤◌, List, length, arith, refl, sym, ap, subst, ◌∙◌}
-use Rattle.std.specs.Prelude.{Bool, true, false, nat_lt, Option, Some, None, ℤ}
+use Rattle.std.specs.Prelude.{true, false, Option, Some, None, ℤ}
 use Rattle.std.proofs.lemmas.Bool.{lt-ltb, le-ltb}
 use Rattle.wb_syntax.specs.declared.syntax.Module.{Module}
 use Rattle.wb_syntax.specs.Syntax.{Code}
 use Rattle.wb_syntax.specs.Nesting.{nested}
-use Rattle.wb_syntax.specs.Execute.{Word, TheStore, TrapKind, Unreached, DivideByZero, Overflow, OutOfBounds, Config, Move, page, Goes, Finishes, Traps, NoRule, machine_step}
+use Rattle.wb_syntax.specs.Execute.{TheStore, Config, Move, page, Goes, Finishes, Traps, NoRule, machine_step}
 use Rattle.wb_syntax.specs.Runs.{RunEnd, Running, StackFull, Stuck, NoMain, Main, words_of, returned, after_step, before_step, runs, first_config, main_of, run_main}
 use Rattle.wb_plain.specs.Effects.{State, SameStore, kind_of}
 use Rattle.wb_plain.specs.declared.outcome.TrapKind.{TrapKind as TheKind}

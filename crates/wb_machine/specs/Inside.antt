@@ -2,11 +2,9 @@
 use Rattle.std.specs.Prelude.{◌≡◌, ℕ, ◌<◌, ◌^◌, List, Option, Some, None, IfSome}
 use Rattle.wb_syntax.specs.declared.syntax.Module.{Module}
 use Rattle.wb_syntax.specs.Runs.{fixed_room, main_arity, status_in}
-use Rattle.wb_code.specs.declared.leading.Jump.{Jump}
 use Rattle.wb_plain.specs.Follows.{pages_of}
 use Rattle.wb_control.specs.declared.run.Run.{Run}
 use Rattle.wb_control.specs.Changes.{IsRoomy}
-use Rattle.wb_control.specs.Stands.{AllLead}
 
 -- a run has room for so many words, and the memory its size
 pub record IsFor (m : Module) (words : ℕ) (r : Run) : Type 0 where

@@ -32,60 +32,99 @@ fn instr(word: &str) -> Instr {
     }
 }
 
-/// A module with a memory of so many pages, a global at 7, and a `main` of two i64 with one local.
-fn module(alloc: Global, pages: u32, words: &str) -> Result<Module, Fail> {
+/// A list of one item.
+fn one<T: Drop>(alloc: Global, item: T) -> Result<Items<T>, AllocError> {
+    let mut items = Items::new(alloc);
+    items.push(item)?;
+    Ok(items)
+}
+
+/// A function of two i64 with one local.
+fn func(alloc: Global, words: &str) -> Result<Func, AllocError> {
     let mut body = Items::new(alloc);
     for word in words.split(' ') {
         body.push(instr(word))?;
     }
-    let mut init = Items::new(alloc);
-    init.push(Instr::I64Const(7))?;
-    init.push(Instr::End)?;
-    let mut params = Items::new(alloc);
-    params.push(NumType::I64)?;
-    params.push(NumType::I64)?;
-    let mut m = Module {
-        types: Items::new(alloc),
-        funcs: Items::new(alloc),
-        memories: Items::new(alloc),
-        globals: Items::new(alloc),
-        exports: Items::new(alloc),
-    };
-    m.types.push(FuncType {
+    let locals = one(
+        alloc,
+        LocalRun {
+            count: 1,
+            ty: NumType::I32,
+        },
+    )?;
+    Ok(Func {
+        ty: 0,
+        locals,
+        body,
+    })
+}
+
+/// The type of two i64 to i64.
+fn ty(alloc: Global) -> Result<FuncType, AllocError> {
+    let params = Items::from_slice(alloc, &[NumType::I64, NumType::I64])?;
+    Ok(FuncType {
         params,
         result: Some(NumType::I64),
-    })?;
-    m.funcs.push(Func {
-        ty: 0,
-        locals: Items::from_slice(
-            alloc,
-            &[LocalRun {
-                count: 1,
-                ty: NumType::I32,
-            }],
-        )?,
-        body,
-    })?;
-    m.memories.push(Limits {
-        min: pages,
-        max: None,
-    })?;
-    m.globals.push(TheGlobal {
+    })
+}
+
+/// A global at 7.
+fn global(alloc: Global) -> Result<TheGlobal, AllocError> {
+    let mut init = one(alloc, Instr::I64Const(7))?;
+    init.push(Instr::End)?;
+    Ok(TheGlobal {
         ty: NumType::I64,
         mutable: true,
         init,
-    })?;
-    m.exports.push(Export {
-        name: Name::new(String::from_str(alloc, "main")?),
-        what: Exported::Func(0),
-    })?;
-    Ok(m)
+    })
 }
 
-/// The machine of such a module.
-fn machine(alloc: Global, pages: u32, words: u32, body: &str) -> Result<Machine, Fail> {
+/// The export of `main`.
+fn export(alloc: Global) -> Result<Export, AllocError> {
+    let text = String::from_str(alloc, "main")?;
+    Ok(Export {
+        name: Name::new(text),
+        what: Exported::Func(0),
+    })
+}
+
+/// A module with a memory of so many pages, a global, and a `main` with this body.
+fn module(alloc: Global, pages: u32, words: &str) -> Result<Module, AllocError> {
+    let types = one(alloc, ty(alloc)?)?;
+    let funcs = one(alloc, func(alloc, words)?)?;
+    let globals = one(alloc, global(alloc)?)?;
+    let exports = one(alloc, export(alloc)?)?;
+    let memories = one(
+        alloc,
+        Limits {
+            min: pages,
+            max: None,
+        },
+    )?;
+    Ok(Module {
+        types,
+        funcs,
+        memories,
+        globals,
+        exports,
+    })
+}
+
+/// The machine of such a module, for so many words, of which there is one at least.
+fn machine(alloc: Global, pages: u32, words: u8, body: &str) -> Result<Machine, Fail> {
     let valid = validate(alloc, module(alloc, pages, body)?)?;
-    Ok(Machine::new(alloc, valid, words)?)
+    let most = u32::from(words.max(1));
+    Ok(Machine::new(alloc, valid, most)?)
+}
+
+/// Calls `main` where it takes as many arguments.
+fn call(m: &mut Machine, args: &[i64], limit: u64) -> Option<MachineEnd> {
+    if let Some(count) = m.main_arity() {
+        if count as usize != args.len() {
+            return None;
+        }
+    }
+    Some(m.call_main(args, limit))
 }
 
 #[test]
@@ -100,13 +139,17 @@ fn words_and_steps(rt: HostRuntime) -> Result<(), Fail> {
     ];
     for (words, limit, wanted) in rows {
         let mut m = machine(rt.alloc(), 1, words, "7 end")?;
-        assert_eq!(rt; m.call_main(&[1, 2], limit), wanted, "{words} {limit}");
+        assert_eq!(rt;
+            call(&mut m, &[1, 2], limit),
+            Some(wanted),
+            "{words} {limit}"
+        );
     }
     Ok(())
 }
 
 #[test]
-fn arguments_and_ends(rt: HostRuntime) -> Result<(), Fail> {
+fn arguments_and_limits(rt: HostRuntime) -> Result<(), Fail> {
     let rows = [
         ("first second sub end", 4, MachineEnd::Returned(-3)),
         ("first second sub end", 3, MachineEnd::StepLimit),
@@ -114,30 +157,40 @@ fn arguments_and_ends(rt: HostRuntime) -> Result<(), Fail> {
     ];
     for (body, limit, wanted) in rows {
         let mut m = machine(rt.alloc(), 1, 99, body)?;
-        assert_eq!(rt; m.main_arity(), Some(2));
-        assert_eq!(rt; m.call_main(&[5, 8], limit), wanted, "{body} {limit}");
+        assert_eq!(rt;
+            call(&mut m, &[5, 8], limit),
+            Some(wanted),
+            "{body} {limit}"
+        );
+        assert_eq!(rt; call(&mut m, &[5], limit), None, "{body}");
     }
+    Ok(())
+}
+
+#[test]
+fn a_call_after_a_trap(rt: HostRuntime) -> Result<(), Fail> {
     let mut m = machine(rt.alloc(), 1, 99, "first second div end")?;
-    assert_eq!(rt;
-        m.call_main(&[5, 0], 9),
-        MachineEnd::Trap(TrapKind::DivideByZero)
-    );
-    assert_eq!(rt;
-        m.call_main(&[7, 2], 9),
-        MachineEnd::Returned(3),
-        "a call after a trap"
-    );
+    let trap = MachineEnd::Trap(TrapKind::DivideByZero);
+    assert_eq!(rt; call(&mut m, &[5, 0], 9), Some(trap));
+    assert_eq!(rt; call(&mut m, &[7, 2], 9), Some(MachineEnd::Returned(3)));
     Ok(())
 }
 
 #[test]
 fn memory_and_globals_stay(rt: HostRuntime) -> Result<(), Fail> {
     let mut m = machine(rt.alloc(), 1, 99, "get one sub set 0 get store get end")?;
-    assert_eq!(rt; m.status(), 0);
-    assert_eq!(rt; m.call_main(&[0, 0], 99), MachineEnd::Returned(6));
-    assert_eq!(rt; m.status(), 6);
-    assert_eq!(rt; m.call_main(&[0, 0], 99), MachineEnd::Returned(5));
-    assert_eq!(rt; m.status(), 5);
+    for wanted in [6, 5, 4] {
+        assert_eq!(rt;
+            call(&mut m, &[0, 0], 99),
+            Some(MachineEnd::Returned(wanted))
+        );
+        assert_eq!(rt; i64::from(m.status()), wanted);
+    }
+    Ok(())
+}
+
+#[test]
+fn most_pages(rt: HostRuntime) -> Result<(), Fail> {
     let large = validate(rt.alloc(), module(rt.alloc(), 1025, "7 end")?)?;
     match Machine::new(rt.alloc(), large, 9) {
         Ok(_) => assert!(rt; false),

@@ -1,4 +1,4 @@
-use Rattle.std.proofs.Common.{◌≡◌, ◌-◌, length}
+use Rattle.std.proofs.Common.{◌≡◌, ◌-◌}
 use Rattle.wb_syntax.specs.Execute.{Config}
 use Rattle.wb_plain.specs.Follows.{length_of}
 use Rattle.wb_control.specs.Changes.{Fits, SameRooms}
