@@ -1,0 +1,14 @@
+pub mod Truth
+pub mod Behind
+pub mod Longest
+pub mod Neighbours
+pub mod Lines
+pub mod Spelt
+pub mod Printable
+pub mod Tables
+pub mod Declared
+pub mod Deriving
+pub mod Resolving
+pub mod Placed
+pub mod Worded
+pub mod Found

@@ -1,0 +1,6 @@
+//! What printed programs read back as.
+#![tactic(auto)]
+
+mod laws;
+
+pub use laws::tokens_are_pieces;
