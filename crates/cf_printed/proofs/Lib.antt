@@ -12,3 +12,8 @@ pub mod Resolving
 pub mod Placed
 pub mod Worded
 pub mod Found
+pub mod Forms
+pub mod Valued
+pub mod Lists
+pub mod Branches
+pub mod Derived

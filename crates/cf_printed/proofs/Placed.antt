@@ -20,7 +20,7 @@ use Rattle.cf_core_text.specs.declared.pieces.Piece.TheVariants as piece
 use Rattle.cf_core_text.specs.declared.pieces.Place.{Place}
 use Rattle.cf_core_text.specs.declared.pieces.Place.TheVariants as place
 use Rattle.cf_printed.proofs.Deriving.{Gives, Means, Spell, at_of, cut, g_both, g_map, g_none, g_phrase, g_same, g_token, means_both, means_none, means_phrase, means_token, token_at}
-use Rattle.cf_printed.proofs.Resolving.{Is, are_two, is_form}
+use Rattle.cf_printed.proofs.Resolving.{Is, is_two}
 
 append_nil : {A : Type 0} (xs : List A) → xs ++ [] ≡ xs
 append_nil [] = refl
@@ -116,7 +116,7 @@ module _ (N : Names) (g : Globals) where
             (means_both (means_phrase (phrase.Arg true e j) 0 (c.first ∷ c.others) m ms refl (means_both y.1 (means_none (m ∷ ms)))) (means_both (f (suc j)) (means_none (t ∷ ts)))) in
         let r = h e ks c.first c.others t ts (meant.also (meant.argument false y.0.0) xs) c.front more in
         let p : At = r.0.0 in
-        ((p, (form p (head.App false) (r.0.1.0 ∷ y.0.0 ∷ []), is_form g ls p (head.App false) _ [] (cons u (cons v nil)) _ (are_two g ls r.0.1.0 y.0.0 u v r.0.1.1 y.0.1) (λ n. refl))), r.1)
+        ((p, (form p (head.App false) (r.0.1.0 ∷ y.0.0 ∷ []), is_two g ls p (head.App false) r.0.1.0 y.0.0 u v (node (AppH false) (cons u (cons v nil))) r.0.1.1 y.0.1 (λ n. refl))), r.1)
 
     -- an application in front of operands
     pub app_left : (ps : List Piece) (u : Tm) → AsApp ps ls u → AsLeft ps ls u
@@ -142,7 +142,7 @@ module _ (N : Names) (g : Globals) where
         let y = operand e qs v i (c.first ∷ c.others) m ms t ts xs c.back f in
         let r = h e ks c.first c.others t ts (meant.also (meant.term y.0.0) xs) c.front y.1 in
         let p : At = r.0.0 in
-        ((p, (form p head.OApp (r.0.1.0 ∷ y.0.0 ∷ []), is_form g ls p head.OApp _ [] (cons u (cons v nil)) _ (are_two g ls r.0.1.0 y.0.0 u v r.0.1.1 y.0.1) (λ n. refl))), r.1)
+        ((p, (form p head.OApp (r.0.1.0 ∷ y.0.0 ∷ []), is_two g ls p head.OApp r.0.1.0 y.0.0 u v (node OAppH (cons u (cons v nil))) r.0.1.1 y.0.1 (λ n. refl))), r.1)
 
     -- a form of each class as a term
     pub stands_term : (c : Place) (ps : List Piece) (u : Tm) → Stands c ps ls u → AsTerm ps ls u

@@ -64,3 +64,31 @@ module _ (g : Globals) where
 
   pub are_four : (ls : List Binder) (q r s t : Tree) (x w v u : Tm) → Is ls q x → Is ls r w → Is ls s v → Is ls t u → AreAll ls (parts (q ∷ r ∷ s ∷ t ∷ [])) [] (cons x (cons w (cons v (cons u nil))))
   are_four ls q r s t x w v u i j k h = are_part ls [] q (parts (r ∷ s ∷ t ∷ [])) [] x (cons w (cons v (cons u nil))) i (are_three ls r s t w v u j k h)
+
+  -- forms over so many parts
+  pub is_zero : (ls : List Binder) (p : At) (h : Head) (v : Tm) → ((n : ℕ) → formed h [] nil n ≡ As v n) → Is ls (form p h []) v
+  is_zero ls p h v f = is_form ls p h (parts []) [] nil v (are_none ls) f
+
+  pub is_one : (ls : List Binder) (p : At) (h : Head) (t : Tree) (u v : Tm) → Is ls t u → ((n : ℕ) → formed h [] (cons u nil) n ≡ As v n) → Is ls (form p h (t ∷ [])) v
+  is_one ls p h t u v i f = is_form ls p h (parts (t ∷ [])) [] (cons u nil) v (are_one ls t u i) f
+
+  pub is_two : (ls : List Binder) (p : At) (h : Head) (s t : Tree) (w u v : Tm) → Is ls s w → Is ls t u → ((n : ℕ) → formed h [] (cons w (cons u nil)) n ≡ As v n) → Is ls (form p h (s ∷ t ∷ [])) v
+  is_two ls p h s t w u v i j f = is_form ls p h (parts (s ∷ t ∷ [])) [] (cons w (cons u nil)) v (are_two ls s t w u i j) f
+
+  pub is_three : (ls : List Binder) (p : At) (h : Head) (r s t : Tree) (x w u v : Tm) → Is ls r x → Is ls s w → Is ls t u → ((n : ℕ) → formed h [] (cons x (cons w (cons u nil))) n ≡ As v n) → Is ls (form p h (r ∷ s ∷ t ∷ [])) v
+  is_three ls p h r s t x w u v i j k f = is_form ls p h (parts (r ∷ s ∷ t ∷ [])) [] (cons x (cons w (cons u nil))) v (are_three ls r s t x w u i j k) f
+
+  pub is_four : (ls : List Binder) (p : At) (h : Head) (q r s t : Tree) (y x w u v : Tm) → Is ls q y → Is ls r x → Is ls s w → Is ls t u → ((n : ℕ) → formed h [] (cons y (cons x (cons w (cons u nil)))) n ≡ As v n) → Is ls (form p h (q ∷ r ∷ s ∷ t ∷ [])) v
+  is_four ls p h q r s t y x w u v i j k l f = is_form ls p h (parts (q ∷ r ∷ s ∷ t ∷ [])) [] (cons y (cons x (cons w (cons u nil)))) v (are_four ls q r s t y x w u i j k l) f
+
+  -- a part, and a part under a variable; a type, what a variable stands for under l, and a part under it
+  pub is_bound : (ls : List Binder) (p : At) (h : Head) (b : Binder) (s t : Tree) (w u v : Tm) → Is ls s w → Is (b ∷ ls) t u → ((n : ℕ) → formed h [] (cons w (cons u nil)) n ≡ As v n) → Is ls (tree p (Plain h) (part [] s (part (b ∷ []) t none))) v
+  is_bound ls p h b s t w u v i j f =
+      is_form ls p h (part [] s (part (b ∷ []) t none)) [] (cons w (cons u nil)) v
+        (are_part ls [] s (part (b ∷ []) t none) [] w (cons u nil) i (are_part ls (b ∷ []) t none [] u nil j (are_none ls))) f
+
+  pub is_defined : (ls bs : List Binder) (p : At) (h : Head) (b : Binder) (r s t : Tree) (x w u v : Tm) → Is ls r x → Is (under bs ls) s w → Is (b ∷ ls) t u → ((n : ℕ) → formed h [] (cons x (cons w (cons u nil))) n ≡ As v n) → Is ls (tree p (Plain h) (part [] r (part bs s (part (b ∷ []) t none)))) v
+  is_defined ls bs p h b r s t x w u v i j k f =
+      is_form ls p h (part [] r (part bs s (part (b ∷ []) t none))) [] (cons x (cons w (cons u nil))) v
+        (are_part ls [] r (part bs s (part (b ∷ []) t none)) [] x (cons w (cons u nil)) i
+          (are_part ls bs s (part (b ∷ []) t none) [] w (cons u nil) j (are_part ls (b ∷ []) t none [] u nil k (are_none ls)))) f
