@@ -22,12 +22,12 @@ use Rattle.cf_printed.proofs.Spelt.{local_token, mark_token, word_token}
 use Rattle.cf_printed.proofs.Tables.{Agrees, agrees_below, agrees_start, adds, named, next_global, next_type, get_mid, tells}
 
 -- how many stand above what follows a declaration
-types_at : (g : Globals) (d : Declaration) (t : ℕ) → t ≡ length g.types → types_below t d ≡ length (below g d).types
+pub types_at : (g : Globals) (d : Declaration) (t : ℕ) → t ≡ length g.types → types_below t d ≡ length (below g d).types
 types_at g (DataC d) t e = omega (arith, e, length-append g.types (d.name ∷ [])) ∙ ap length (sym (adds (with_type d.name g) (length g.types) d.params d.ctors).types)
 types_at g (MetaC x a b) t e = e
 types_at g (ObjectC x a b) t e = e
 
-globals_at : (g : Globals) (d : Declaration) (v : ℕ) → v ≡ length g.variables → globals_below v d ≡ length (below g d).variables
+pub globals_at : (g : Globals) (d : Declaration) (v : ℕ) → v ≡ length g.variables → globals_below v d ≡ length (below g d).variables
 globals_at g (DataC d) v e = e ∙ ap length (sym (adds (with_type d.name g) (length g.types) d.params d.ctors).variables)
 globals_at g (MetaC x a b) v e = ap suc e
 globals_at g (ObjectC x a b) v e = ap suc e

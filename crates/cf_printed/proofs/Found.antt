@@ -71,7 +71,7 @@ true_false : {A : Type 0} (b : Bool) → b ≡ true → b ≡ false → A
 true_false true e f = absurd (cc)
 true_false false e f = absurd (cc)
 
-get_front : {A : Type 0} (xs ys : List A) (i : ℕ) (x : A) → slice_get xs i ≡ Some x → slice_get (xs ++ ys) i ≡ Some x
+pub get_front : {A : Type 0} (xs ys : List A) (i : ℕ) (x : A) → slice_get xs i ≡ Some x → slice_get (xs ++ ys) i ≡ Some x
 get_front [] ys i x e = absurd (cc)
 get_front (z ∷ xs) ys zero x e = e
 get_front (z ∷ xs) ys (suc i) x e = get_front xs ys i x e

@@ -17,3 +17,6 @@ pub mod Valued
 pub mod Lists
 pub mod Branches
 pub mod Derived
+pub mod Finding
+pub mod Spelling
+pub mod Programs

@@ -1,3 +1,4 @@
 pub mod Scoped
 pub mod Printed
+pub mod Plain
 pub mod Laws
