@@ -20,3 +20,4 @@ pub mod Derived
 pub mod Finding
 pub mod Spelling
 pub mod Programs
+pub mod ReadBack
