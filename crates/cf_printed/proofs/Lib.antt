@@ -21,3 +21,5 @@ pub mod Finding
 pub mod Spelling
 pub mod Programs
 pub mod ReadBack
+pub mod Only
+pub mod Examples

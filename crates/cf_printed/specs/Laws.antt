@@ -29,3 +29,7 @@ pub record ReadsAs (bytes : List ℕ) (l : TokenList) (p : Program) : Type 0 whe
 -- a printed core reads as an explicit program with the same core, marks and `implicit` flags aside
 abbrev pub ReadsBack : Type 0
 ReadsBack = (ds : List Declaration) → AllScoped start ds → (l : TokenList) × (p : Program) × ReadsAs (core_text ds) l p × (is_explicit p ≡ true) × IsCoreOf p (plain_program ds)
+
+-- whatever the text of a core reads as, limits left aside, is an explicit program with the same core, marks and `implicit` flags aside
+abbrev pub ReadsOnly : Type 0
+ReadsOnly = (ds : List Declaration) → AllScoped start ds → (l : TokenList) → Lexed (core_text ds) (Ok l) → (p : Program) → ReadsUnlimited false (tokens_of l) p → (is_explicit p ≡ true) × IsCoreOf p (plain_program ds)

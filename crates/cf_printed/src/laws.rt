@@ -1,6 +1,9 @@
-//! Laws of reading what is printed, each proved as the contract of a function that does nothing.
+//! Laws of reading what is printed, each as the contract of a function that does nothing.
 
-ghost use Rattle.cf_printed.specs.Laws.{ReadsBack, TokensArePieces};
+ghost use Rattle.cf_printed.specs.Laws.{ReadsBack, ReadsOnly, TokensArePieces};
+
+use cf_lex::lexes_one;
+use cf_parse::reads_one;
 
 /// The tokens of a printed program are the printed tokens.
 pub fn tokens_are_pieces()
@@ -11,3 +14,11 @@ pub fn tokens_are_pieces()
 pub fn reads_back()
     ensures { ReadsBack }
 {}
+
+/// Whatever a printed core reads as is an explicit program with the same core, marks and `implicit` flags aside.
+pub fn reads_only()
+    ensures { ReadsOnly }
+{
+    lexes_one();
+    reads_one();
+}

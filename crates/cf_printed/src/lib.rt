@@ -5,4 +5,4 @@
 
 mod laws;
 
-pub use laws::{reads_back, tokens_are_pieces};
+pub use laws::{reads_back, reads_only, tokens_are_pieces};
