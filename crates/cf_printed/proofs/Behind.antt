@@ -5,8 +5,7 @@ use Rattle.std.specs.List.{list_all}
 use Rattle.std.specs.Option.{option_map}
 use Rattle.unicode_ident.specs.Ident.{is_xid_continue}
 use Rattle.cf_lex.specs.Spelling.{long_mark}
-use Rattle.cf_lex.specs.Tokens.{at_end, begins_comment, begins_name, begins_natlit, begins_negative, is_blank, is_digit, mark_piece, other_spelled, pair_spelled, spelled, stays_on_line, where_all, word_of}
-use Rattle.cf_lex.specs.declared.marks.Mark.{Mark}
+use Rattle.cf_lex.specs.Tokens.{at_end, begins_comment, begins_name, begins_natlit, begins_negative, is_blank, is_digit, mark_piece, other_spelled, spelled, stays_on_line, where_all, word_of}
 use Rattle.cf_lex.specs.declared.marks.Mark.TheVariants as sign
 use Rattle.cf_lex.specs.declared.piece.Lexeme.TheVariants as lexeme
 use Rattle.cf_lex.specs.declared.piece.Piece.{Piece}

@@ -1,6 +1,5 @@
 -- The branches of a `case`, as printed tokens that derive them.
-use Rattle.std.proofs.Common.{◌≡◌, refl, sym, ap, ◌∙◌, subst, arith, append_assoc, ℕ, zero, suc, ◌+◌, Bool, true, false, List, [], ◌∷◌, ◌++◌, length, Some}
-use Rattle.cf_base.specs.declared.at.At.{At}
+use Rattle.std.proofs.Common.{◌≡◌, refl, sym, ap, ◌∙◌, subst, arith, append_assoc, ℕ, zero, suc, ◌+◌, true, false, List, [], ◌∷◌, ◌++◌, length, Some}
 use Rattle.cf_lex.specs.declared.keywords.Keyword.TheVariants as keyword
 use Rattle.cf_lex.specs.declared.marks.Mark.TheVariants as sign
 use Rattle.cf_grammar.specs.Grammar.{Takes}
@@ -21,7 +20,7 @@ use Rattle.cf_core_text.specs.declared.pieces.Piece.TheVariants as piece
 use Rattle.cf_printed.specs.Scoped.{IsCtor}
 use Rattle.cf_printed.proofs.Deriving.{Gives, g_both, g_last, g_map, g_none, g_phrase, g_same, g_token}
 use Rattle.cf_printed.proofs.Forms.{Finds, binder_g}
-use Rattle.cf_printed.proofs.Placed.{AsTerm, Tree_of}
+use Rattle.cf_printed.proofs.Placed.{AsTerm}
 use Rattle.cf_printed.proofs.Resolving.{AreAll, Is, are_branch, are_none, are_part, is_form}
 use Rattle.cf_printed.proofs.Found.{local_name, locals}
 
@@ -97,9 +96,9 @@ module _ (N : Names) (g : Globals) (finds : Finds N g) where
   arm_form : (m d : ℕ) → d ≡ G + m → (b : Branch) (f : Printed) (u : Tm) → AsTerm N g f.pieces (locals (pieces.under m b.names)) u → (e : ℕ) → Gives N (a (phrase.Branch true e)) (arm_body G d b f) {A = Arm_of m b u} (λ x. meant.arm x.0 x.1 x.2)
   arm_form m d q b f u h e = g_map N
       (g_phrase N (phrase.Branch true e) 0 refl
-        (g_token N (piece.Ctor b.type b.ctor) _ Takes.any_name
-          (g_both N (bound_names G d b.names) (piece.Mark sign.Dot ∷ f.pieces) (binders_form b.names m d q)
-            (g_token N (piece.Mark sign.Dot) f.pieces Takes.exact (g_last N f.pieces (h (suc e)))))))
+      (g_token N (piece.Ctor b.type b.ctor) _ Takes.any_name
+      (g_both N (bound_names G d b.names) (piece.Mark sign.Dot ∷ f.pieces) (binders_form b.names m d q)
+      (g_token N (piece.Mark sign.Dot) f.pieces Takes.exact (g_last N f.pieces (h (suc e)))))))
       (λ x. (record { at = meant.place false x.1.0; name = ctor_name N b.type b.ctor }, binders_in x.1.1.0.0, x.1.1.1.1.0, refl, x.1.1.0.1, x.1.1.1.1.1))
       (λ x. refl)
 
@@ -117,13 +116,13 @@ module _ (N : Names) (g : Globals) (finds : Finds N g) where
   also_arm m b bs u us i x y =
       let k = finds.ctors b.type b.ctor i in
       are_branch g (locals m) x.1 x.0 x.2 (arms_in y.0) k.0 b bs u us (ap (ctor_of g) x.3 ∙ k.1) k.2 k.3 (ap length x.4 ∙ names_length m b.names)
-        (subst (λ l. Is g l x.2 u) (sym (ap (λ l. under l (locals m)) x.4 ∙ under_names m b.names)) x.5) y.1
+      (subst (λ l. Is g l x.2 u) (sym (ap (λ l. under l (locals m)) x.4 ∙ under_names m b.names)) x.5) y.1
 
   more_form : (m d : ℕ) → d ≡ G + m → (bs : List Branch) (fs : List Printed) (us : Tms) → EachArm m bs fs us → (e : ℕ) → Gives N (a (phrase.MoreBranches true e)) (more_body G d bs fs) {A = Arms_of m bs us} (λ x. x.0)
   more_form m d q [] [] nil h e = g_map N (g_phrase N (phrase.MoreBranches true e) 0 refl (g_none N)) (λ x. (meant.nothing, are_none g (locals m))) (λ x. refl)
   more_form m d q (b ∷ bs) (f ∷ fs) (cons u us) h e = g_map N
       (g_phrase N (phrase.MoreBranches true e) 1 refl
-        (g_token N (piece.Mark sign.Bar) _ Takes.exact (g_both N (arm_body G d b f) (more_body G d bs fs) (arm_form m d q b f u h.0 e) (g_last N (more_body G d bs fs) (more_form m d q bs fs us h.2 e)))))
+      (g_token N (piece.Mark sign.Bar) _ Takes.exact (g_both N (arm_body G d b f) (more_body G d bs fs) (arm_form m d q b f u h.0 e) (g_last N (more_body G d bs fs) (more_form m d q bs fs us h.2 e)))))
       (λ x. (meant.also (meant.arm x.1.1.0.0 x.1.1.0.1 x.1.1.0.2) x.1.1.1.0, also_arm m b bs u us h.1 x.1.1.0 x.1.1.1))
       (λ x. refl)
   more_form m d q bs fs us h e = absurd h
@@ -138,23 +137,24 @@ module _ (N : Names) (g : Globals) (finds : Finds N g) where
 
   -- case t : s of { .. }
   pub case_form : (m d : ℕ) → d ≡ G + m → (ps qs : List Piece) (t s : Tm) → AsTerm N g ps (locals m) t → AsTerm N g qs (locals m) s → (bs : List Branch) (fs : List Printed) (us : Tms) → EachArm m bs fs us →
-    AsTerm N g (piece.Word keyword.Case ∷ (ps ++ piece.Mark sign.Colon ∷ (qs ++ piece.Word keyword.Of ∷ piece.Mark sign.OpenBrace ∷ arms G d bs fs))) (locals m) (node (CaseH bs) (cons t (cons s us)))
+      AsTerm N g (piece.Word keyword.Case ∷ (ps ++ piece.Mark sign.Colon ∷ (qs ++ piece.Word keyword.Of ∷ piece.Mark sign.OpenBrace ∷ arms G d bs fs))) (locals m) (node (CaseH bs) (cons t (cons s us)))
   case_form m d q ps qs t s h i bs fs us k e = g_same N
       (ap (λ l. piece.Word keyword.Case ∷ (ps ++ piece.Mark sign.Colon ∷ (qs ++ piece.Word keyword.Of ∷ piece.Mark sign.OpenBrace ∷ l))) (sym (arms_split G d bs fs)))
       (g_map N
-        (g_phrase N (phrase.Term true e) 7 refl
-          (g_token N (piece.Word keyword.Case) _ Takes.exact
-            (g_both N ps _ (h (suc e))
-              (g_both N (piece.Mark sign.Colon ∷ qs) _ (g_phrase N (phrase.CaseType true e) 0 refl (g_token N (piece.Mark sign.Colon) qs Takes.exact (g_last N qs (i (suc e)))))
-                (g_token N (piece.Word keyword.Of) _ Takes.exact
-                  (g_token N (piece.Mark sign.OpenBrace) _ Takes.exact
-                    (g_both N (arms_body G d bs fs) (piece.Mark sign.CloseBrace ∷ []) (branches_form m d q bs fs us k e) (g_token N (piece.Mark sign.CloseBrace) [] Takes.exact (g_none N)))))))))
-        (λ x.
-          let y : Tree = x.1.1.0.0 in
-          let z : Tree = x.1.1.1.0.1.1.0 in
-          let v : Sem = x.1.1.1.1.1.1.0.0 in
-          let ts : Trees = trees.part [] y (trees.part [] z (arms_in v)) in
-          (tree x.0 (Plain head.Case) ts,
-           is_form g (locals m) x.0 head.Case ts bs (cons t (cons s us)) (node (CaseH bs) (cons t (cons s us)))
-             (are_part g (locals m) [] y (trees.part [] z (arms_in v)) bs t (cons s us) x.1.1.0.1 (are_part g (locals m) [] z (arms_in v) bs s us x.1.1.1.0.1.1.1 x.1.1.1.1.1.1.0.1)) (λ n. refl)))
-        (λ x. refl))
+      (g_phrase N (phrase.Term true e) 7 refl
+      (g_token N (piece.Word keyword.Case) _ Takes.exact
+      (g_both N ps _ (h (suc e))
+      (g_both N (piece.Mark sign.Colon ∷ qs) _ (g_phrase N (phrase.CaseType true e) 0 refl (g_token N (piece.Mark sign.Colon) qs Takes.exact (g_last N qs (i (suc e)))))
+      (g_token N (piece.Word keyword.Of) _ Takes.exact
+      (g_token N (piece.Mark sign.OpenBrace) _ Takes.exact
+      (g_both N (arms_body G d bs fs) (piece.Mark sign.CloseBrace ∷ []) (branches_form m d q bs fs us k e) (g_token N (piece.Mark sign.CloseBrace) [] Takes.exact (g_none N)))))))))
+      (λ x.
+      let y : Tree = x.1.1.0.0 in
+      let z : Tree = x.1.1.1.0.1.1.0 in
+      let v : Sem = x.1.1.1.1.1.1.0.0 in
+      let ts : Trees = trees.part [] y (trees.part [] z (arms_in v)) in (
+        tree x.0 (Plain head.Case) ts,
+        is_form g (locals m) x.0 head.Case ts bs (cons t (cons s us)) (node (CaseH bs) (cons t (cons s us)))
+            (are_part g (locals m) [] y (trees.part [] z (arms_in v)) bs t (cons s us) x.1.1.0.1 (are_part g (locals m) [] z (arms_in v) bs s us x.1.1.1.0.1.1.1 x.1.1.1.1.1.1.0.1)) (λ n. refl),
+      ))
+      (λ x. refl))

@@ -1,8 +1,8 @@
 -- The lines of a printed program are tokens.
-use Rattle.std.proofs.Common.{◌≡◌, refl, sym, ap, ◌∙◌, subst, arith, inl, inr, append_assoc, length-append, ℕ, zero, suc, ◌+◌, ◌^◌, ◌<◌, ◌≤◌, List, [], ◌∷◌, ◌++◌, length, Some, None, map}
+use Rattle.std.proofs.Common.{◌≡◌, refl, sym, ap, ◌∙◌, subst, arith, inl, inr, append_assoc, length-append, ℕ, zero, suc, ◌+◌, ◌^◌, ◌<◌, List, [], ◌∷◌, ◌++◌, length, Some, None, map}
 use Rattle.std.specs.Prelude.{slice_get}
 use Rattle.std.proofs.lemmas.Bool.{cases_lt}
-use Rattle.cf_lex.specs.Lexed.{AreChars, IsLexed}
+use Rattle.cf_lex.specs.Lexed.{IsLexed}
 use Rattle.cf_lex.specs.declared.keywords.Keyword.TheVariants as keyword
 use Rattle.cf_lex.specs.declared.marks.Mark.TheVariants as sign
 use Rattle.cf_term.specs.Core.{Tm}
@@ -10,7 +10,7 @@ use Rattle.cf_rules.specs.Programs.{Constructor, Data, Declaration, DataC, MetaC
 use Rattle.cf_elab.specs.Scope.{Globals, start, with_own, with_type}
 use Rattle.cf_core_text.specs.Names.{Names, ctor_in, data_types, global_names, names_of}
 use Rattle.cf_core_text.specs.Pieces.{listed, pieces, printed, under}
-use Rattle.cf_core_text.specs.Lines.{bar, constructor, constructors, data_line, definition, globals_below, head_line, line, line_text, lines, parameters, types_below}
+use Rattle.cf_core_text.specs.Lines.{bar, constructor, constructors, definition, globals_below, head_line, line, line_text, lines, parameters, types_below}
 use Rattle.cf_core_text.specs.declared.pieces.Piece.{Piece}
 use Rattle.cf_core_text.specs.declared.pieces.Piece.TheVariants as piece
 use Rattle.cf_printed.specs.Printed.{line_items, printed_tokens}
@@ -52,7 +52,7 @@ module _ (N : Names) where
       let fields : AreTokens N (listed (map (printed v (under v p)) c.fields)) = listed_t N (map (printed v (under v p)) c.fields) (fields_t g l (under v p) c.fields s.1) in
       let first : AreTokens N (constructor v (under v p) t j c) = (token, (mark_token N sign.OpenParen, app N (listed (map (printed v (under v p)) c.fields)) (piece.Mark sign.CloseParen ∷ []) fields (mark_token N sign.CloseParen, tt))) in
       let rest : AreTokens N (constructors v (under v p) t (suc j) cs) =
-        constructors_t (with_own c.name (next_ctor g t p) g) (record { globals = l.globals; types = l.types; ctors = l.ctors }) t p d at (done ++ c ∷ []) cs (e ∙ sym (append_assoc done (c ∷ []) cs)) (suc j) (omega (arith, f, length-append done (c ∷ []))) s.2 in
+      constructors_t (with_own c.name (next_ctor g t p) g) (record { globals = l.globals; types = l.types; ctors = l.ctors }) t p d at (done ++ c ∷ []) cs (e ∙ sym (append_assoc done (c ∷ []) cs)) (suc j) (omega (arith, f, length-append done (c ∷ []))) s.2 in
       app N (bar j ++ constructor v (under v p) t j c) (constructors v (under v p) t (suc j) cs) (app N (bar j) (constructor v (under v p) t j c) (bar_t j) first) rest
     where
       bar_t : (j : ℕ) → AreTokens N (bar j)
@@ -72,18 +72,26 @@ module _ (N : Names) where
       let token : IsToken N (piece.DataType t) = named d.name _ (ap (λ o. elim o [ Some k ↦ k.name | None ↦ [] ]) at) s.0.0 in
       let l = tells N g (DataC d ∷ ds) a in
       let types_more : (n : ℕ) → n < length (g.types ++ d.name ∷ []) → IsToken N (piece.DataType n) =
-        λ n h. elim (cases_lt n t) [ inl k ↦ l.types n k | inr k ↦ let e : t ≡ n = omega (arith, h, k, length-append g.types (d.name ∷ [])) in subst (λ i. IsToken N (piece.DataType i)) e token ] in
-      (word_token N keyword.Data, (token, app N (parameters 0 d.params) _ (parameters_t 0 d.params (omega (arith, s.1))) (mark_token N sign.Becomes,
-        app N (constructors v (under v d.params) t 0 d.ctors) (piece.Mark sign.Semicolon ∷ [])
-          (constructors_t (with_type d.name g) (record { globals = l.globals; types = types_more; ctors = l.ctors }) t d.params d at [] d.ctors refl 0 refl s.2) (mark_token N sign.Semicolon, tt))))
+      λ n h. elim (cases_lt n t) [ inl k ↦ l.types n k | inr k ↦ let e : t ≡ n = omega (arith, h, k, length-append g.types (d.name ∷ [])) in subst (λ i. IsToken N (piece.DataType i)) e token ] in (
+        word_token N keyword.Data,
+        (
+          token,
+          app N (parameters 0 d.params) _ (parameters_t 0 d.params (omega (arith, s.1))) (
+            mark_token N sign.Becomes,
+            app N (constructors v (under v d.params) t 0 d.ctors) (piece.Mark sign.Semicolon ∷ [])
+                (constructors_t (with_type d.name g) (record { globals = l.globals; types = types_more; ctors = l.ctors }) t d.params d at [] d.ctors refl 0 refl s.2) (mark_token N sign.Semicolon, tt),
+          ),
+        ),
+      )
   line_t g (MetaC x b t) ds a s = (word_token N keyword.Meta, definition_t g (tells N g _ a) (named x _ (next_global N a.outer (global_names ds) x (length g.variables) a.globals a.globals_count) s.0.0) b t s.1 s.2)
   line_t g (ObjectC x b t) ds a s = definition_t g (tells N g _ a) (named x _ (next_global N a.outer (global_names ds) x (length g.variables) a.globals a.globals_count) s.0.0) b t s.1 s.2
 
   lines_t : (g : Globals) (ds : List Declaration) (t v : ℕ) → t ≡ length g.types → v ≡ length g.variables → Agrees N g ds → AllScoped g ds → AreLines N (lines t v ds)
   lines_t g [] t v e f a s = tt
-  lines_t g (d ∷ ds) t v e f a s =
-      (subst (λ i. AreTokens N (line i v d)) (sym e) (subst (λ j. AreTokens N (line (length g.types) j d)) (sym f) (line_t g d ds a s.0)),
-       lines_t (below g d) ds (types_below t d) (globals_below v d) (types_at g d t e) (globals_at g d v f) (agrees_below N g d ds s.0 a) s.1)
+  lines_t g (d ∷ ds) t v e f a s = (
+    subst (λ i. AreTokens N (line i v d)) (sym e) (subst (λ j. AreTokens N (line (length g.types) j d)) (sym f) (line_t g d ds a s.0)),
+    lines_t (below g d) ds (types_below t d) (globals_below v d) (types_at g d t e) (globals_at g d v f) (agrees_below N g d ds s.0 a) s.1,
+  )
 
 -- the tokens of a printed program
 pub printed_lexed : (ds : List Declaration) → AllScoped start ds → IsLexed (printed_tokens ds)

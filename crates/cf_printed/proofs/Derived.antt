@@ -1,8 +1,7 @@
 -- Each printed term derives a tree that becomes the term, marks and `implicit` flags aside.
-use Rattle.std.proofs.Common.{◌≡◌, refl, sym, ap, ◌∙◌, subst, arith, ltb-true, ℕ, zero, suc, ◌+◌, ◌-◌, ◌^◌, ◌<◌, ◌≤◌, Bool, true, false, List, [], ◌∷◌, ◌++◌, length, Option, Some, None, inl, inr}
+use Rattle.std.proofs.Common.{◌≡◌, refl, sym, ap, ◌∙◌, subst, arith, ℕ, zero, suc, ◌+◌, ◌-◌, ◌^◌, ◌<◌, true, false, List, [], ◌∷◌, ◌++◌, length, Option, Some, None, inl, inr}
 use Rattle.std.proofs.lemmas.Bool.{cases_lt}
-use Rattle.std.specs.Prelude.{IsTrue, ℤ, map, position}
-use Rattle.std.specs.Fmt.{decimal, signed_decimal}
+use Rattle.std.specs.Prelude.{IsTrue, ℤ, map}
 use Rattle.cf_lex.specs.declared.keywords.Keyword.TheVariants as keyword
 use Rattle.cf_lex.specs.declared.marks.Mark.TheVariants as sign
 use Rattle.cf_grammar.specs.Grammar.{Takes}
@@ -26,7 +25,7 @@ use Rattle.cf_core_text.specs.Pieces as pieces
 use Rattle.cf_core_text.specs.declared.pieces.Piece.{Piece}
 use Rattle.cf_core_text.specs.declared.pieces.Piece.TheVariants as piece
 use Rattle.cf_core_text.specs.declared.pieces.Place.TheVariants as place
-use Rattle.cf_printed.specs.Scoped.{Are, AreAtLeast, AreCtors, AreScoped, HasParts, IsScoped, IsSmall}
+use Rattle.cf_printed.specs.Scoped.{Are, AreAtLeast, AreCtors, AreScoped, IsScoped, IsSmall}
 use Rattle.cf_printed.proofs.Deriving.{g_map, g_none, g_phrase, g_token}
 use Rattle.cf_printed.proofs.Resolving.{is_zero}
 use Rattle.cf_printed.proofs.Placed.{AsAtom, AsHead, AsTerm, Stands, applied, atom_placed, chain_term, app_chain, chained, function_placed, head_app, left_placed, stands_term}
@@ -34,7 +33,7 @@ use Rattle.cf_printed.proofs.Worded.{constant, one, two, three, four}
 use Rattle.cf_printed.proofs.Forms.{Finds, arrow_form, binder_form, let_form, letrec_form, lift_form, quote_form, sig_form, splice_form, variable_form, variable_global, variable_local}
 use Rattle.cf_printed.proofs.Lists.{EachTerm, con_form, data_form}
 use Rattle.cf_printed.proofs.Branches.{EachArm, case_form}
-use Rattle.cf_printed.proofs.Found.{local_found, local_name, locals, past_locals}
+use Rattle.cf_printed.proofs.Found.{local_found, locals, past_locals}
 use Rattle.cf_printed.proofs.Printable.{successor_of, under_sum}
 use Rattle.cf_printed.proofs.Valued.{natlit_value, whole_value}
 
@@ -87,7 +86,7 @@ module _ (N : Names) (g : Globals) (finds : Finds N g) where
   -- variables
   variable_d : (m d i : ℕ) → d ≡ G + m → d < G + 2 ^ 64 → i < d → AsAtom N g (variable G (d - suc i) ∷ []) (locals m) (var i)
   variable_d m d i q h l = elim (cases_lt i m) [
-      inl k ↦
+    | inl k ↦
         let e : variable G (d - suc i) ≡ piece.Local (m - suc i) = variable_local G (d - suc i) (m - suc i) (omega arith) in
         let f = local_found m (m - suc i) (map Some g.variables) (omega arith) (omega arith) in
         let n : m - suc (m - suc i) ≡ i = omega arith in
@@ -98,8 +97,8 @@ module _ (N : Names) (g : Globals) (finds : Finds N g) where
         let f = finds.globals (d - suc i) j in
         let n : m + (G - suc (d - suc i)) ≡ i = omega arith in
         subst (λ p. AsAtom N g (p ∷ []) (locals m) (var i)) (sym e)
-          (variable_form N g (locals m) (piece.Global (d - suc i)) true i (ap class.Name f.0) (past_locals m (G - suc (d - suc i)) (global_name N (d - suc i)) (map Some g.variables) f.0 f.1 ∙ ap Some n))
-    ]
+        (variable_form N g (locals m) (piece.Global (d - suc i)) true i (ap class.Name f.0) (past_locals m (G - suc (d - suc i)) (global_name N (d - suc i)) (map Some g.variables) f.0 f.1 ∙ ap Some n))
+  ]
 
   -- each printed part stands for the part beside it
   abbrev AllDerived : (m : ℕ) → List Part → List Printed → Tms → Type 0
@@ -131,7 +130,7 @@ module _ (N : Names) (g : Globals) (finds : Finds N g) where
   letrec_one : (m d : ℕ) → d ≡ G + m → (ts : Tms) → Form_d m d (LetRecH 1) ts
   letrec_one m d q (cons a (cons b (cons c nil))) s r =
       term _ (locals m) _ (letrec_form N g (node (LetRecH 1) (cons (plain a) (cons (plain b) (cons (plain c) nil)))) m d q (printed G d a).pieces (printed G (suc d) b).pieces (printed G (suc d) c).pieces (plain a) (plain b) (plain c) (λ i. refl)
-        (term_of (locals m) (printed G d a) (plain a) r.0) (term_of (locals (suc m)) (printed G (suc d) b) (plain b) r.1.0) (term_of (locals (suc m)) (printed G (suc d) c) (plain c) r.1.1.0))
+      (term_of (locals m) (printed G d a) (plain a) r.0) (term_of (locals (suc m)) (printed G (suc d) b) (plain b) r.1.0) (term_of (locals (suc m)) (printed G (suc d) c) (plain c) r.1.1.0))
   letrec_one m d q nil s r = absurd s.2
   letrec_one m d q (cons a nil) s r = absurd s.2
   letrec_one m d q (cons a (cons b nil)) s r = absurd s.2

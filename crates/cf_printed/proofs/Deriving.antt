@@ -1,5 +1,5 @@
 -- Derivations of printed tokens, with what they mean.
-use Rattle.std.proofs.Common.{◌≡◌, refl, sym, ap, ◌∙◌, subst, append_assoc, ℕ, Bool, true, false, List, [], ◌∷◌, ◌++◌, Some}
+use Rattle.std.proofs.Common.{◌≡◌, refl, subst, ℕ, false, List, [], ◌∷◌, ◌++◌, Some}
 use Rattle.std.specs.Prelude.{slice_get}
 use Rattle.cf_base.specs.declared.at.At.{At}
 use Rattle.cf_lex.specs.declared.marks.Mark.TheVariants as sign

@@ -1,10 +1,8 @@
 -- What is declared is found by the names that are printed.
-use Rattle.std.proofs.Common.{◌≡◌, refl, sym, ap, ◌∙◌, subst, arith, inl, inr, append_assoc, ℕ, zero, suc, ◌+◌, ◌-◌, ◌<◌, Bool, true, false, List, [], ◌∷◌, ◌++◌, length, map, Option, Some, None}
-use Rattle.std.specs.Prelude.{◌⊎◌, slice_get, position}
-use Rattle.std.specs.Map.{lookup}
+use Rattle.std.proofs.Common.{◌≡◌, sym, ap, ◌∙◌, subst, arith, inl, inr, ℕ, suc, ◌-◌, ◌<◌, true, List, [], ◌∷◌, ◌++◌, length, map, Some, None}
+use Rattle.std.specs.Prelude.{slice_get, position}
 use Rattle.std.specs.Str.{bytes_eq}
-use Rattle.std.proofs.lemmas.Option.{slice_get_within}
-use Rattle.cf_elab.specs.Scope.{Globals, ctor_of, is_named, settled, type_of, with_own, with_type}
+use Rattle.cf_elab.specs.Scope.{Globals, ctor_of, is_named, type_of, with_own, with_type}
 use Rattle.cf_elab.specs.declared.numbers.CtorNumber.{CtorNumber}
 use Rattle.cf_rules.specs.Programs.{Constructor, Data, Declaration, DataC, MetaC, ObjectC}
 use Rattle.cf_parse.specs.Tokens.{begins_plain}
@@ -29,13 +27,13 @@ facts_inside N g d ds m a = record { type_at = type_there; global_at = a.global_
   where
     type_there : (n : ℕ) (x : List ℕ) → slice_get (g.types ++ d.name ∷ []) n ≡ Some x → (type_name N n ≡ x) × IsName x
     type_there n x h = elim (get_either g.types (d.name ∷ []) n x h) [
-        inl e ↦ a.type_at n x e
+      | inl e ↦ a.type_at n x e
       | inr e ↦
           let f = get_first d.name e.0 x e.2 in
           let k : n ≡ length g.types = omega (arith, e.1, f.0) in
           let at : slice_get N.types (length g.types) ≡ Some d = next_type N a.front (data_types ds) d (length g.types) a.types a.types_count in
           (ap (λ o. elim o [ Some t ↦ t.name | None ↦ [] ]) (ap (slice_get N.types) k ∙ at) ∙ f.1, subst IsName f.1 m)
-      ]
+    ]
 
 pub facts_own : (N : Names) (g : Globals) (x : List ℕ) (k : CtorNumber) → Facts N g → Facts N (with_own x k g)
 facts_own N g x k f = record { type_at = f.type_at; global_at = f.global_at; ctor_at = f.ctor_at }
@@ -49,9 +47,10 @@ finds N g f d = record { globals = global_there; types = type_there; ctors = cto
         let r = get_some g.variables i (omega arith) in
         let q = f.global_at i r.0 r.1 in
         let k : length g.variables - suc i ≡ n = omega arith in
-        let e : global_name N n ≡ r.0 = ap (global_name N) (sym k) ∙ q.0 in
-        (ap begins_plain e ∙ q.1.3,
-         ap (λ x. position (is_named x) (map Some g.variables)) e ∙ global_found r.0 g.variables i r.1 (λ j l h. let same : j ≡ i = d.variables j i r.0 h r.1 in absurd (omega (arith, same, l))))
+        let e : global_name N n ≡ r.0 = ap (global_name N) (sym k) ∙ q.0 in (
+          ap begins_plain e ∙ q.1.3,
+          ap (λ x. position (is_named x) (map Some g.variables)) e ∙ global_found r.0 g.variables i r.1 (λ j l h. let same : j ≡ i = d.variables j i r.0 h r.1 in absurd (omega (arith, same, l))),
+        )
 
     type_there : (n : ℕ) → n < length g.types → type_of g (type_name N n) ≡ Some n
     type_there n h =
@@ -62,12 +61,14 @@ finds N g f d = record { globals = global_there; types = type_there; ctors = cto
     ctor_there : (n c : ℕ) → IsCtor g n c → (k : CtorNumber) × (ctor_of g (ctor_name N n c) ≡ Some k) × (k.data_type ≡ n) × (k.ctor ≡ c)
     ctor_there n c i =
         let q = f.ctor_at i.0 i.1 i.2 i.3 in
-        let e : ctor_name N n c ≡ i.1 = (λ j. ctor_name N (sym i.4 j) (sym i.5 j)) ∙ q.0 in
-        (i.2,
-         ap (ctor_of g) e ∙ first_entry (bytes_eq i.1) g.ctors i.0 i.1 i.2 i.3 (equal i.1) (λ j z l k. apart i.1 z.0 (λ m.
-           let same : j ≡ i.0 = d.ctors j i.0 i.1 z.1 i.2 (get_front g.ctors g.own j (i.1, z.1) (k ∙ ap (λ y. Some (y, z.1)) (sym m))) (get_front g.ctors g.own i.0 (i.1, i.2) i.3) in
-           omega (arith, same, l))),
-         i.4, i.5)
+        let e : ctor_name N n c ≡ i.1 = (λ j. ctor_name N (sym i.4 j) (sym i.5 j)) ∙ q.0 in (
+          i.2,
+          ap (ctor_of g) e ∙ first_entry (bytes_eq i.1) g.ctors i.0 i.1 i.2 i.3 (equal i.1) (λ j z l k. apart i.1 z.0 (λ m.
+              let same : j ≡ i.0 = d.ctors j i.0 i.1 z.1 i.2 (get_front g.ctors g.own j (i.1, z.1) (k ∙ ap (λ y. Some (y, z.1)) (sym m))) (get_front g.ctors g.own i.0 (i.1, i.2) i.3) in
+              omega (arith, same, l))),
+          i.4,
+          i.5,
+        )
 
 -- names are told apart below each declaration
 ctors_distinct : (g : Globals) (t p : ℕ) (cs : List Constructor) → CtorsScoped g t p cs → Distinct g → Distinct (below_ctors g t p cs)

@@ -1,5 +1,5 @@
 -- Each printed name stands for the number that it was printed for.
-use Rattle.std.proofs.Common.{◌≡◌, refl, sym, ap, ◌∙◌, subst, arith, inl, inr, append_assoc, ltb-true, lt-ltb, le-ltb, ℕ, zero, suc, ◌+◌, ◌-◌, ◌^◌, ◌<◌, ◌≤◌, Bool, true, false, cond, ◌||◌, List, [], ◌∷◌, ◌++◌, length, map, Option, Some, None}
+use Rattle.std.proofs.Common.{◌≡◌, refl, sym, ap, ◌∙◌, subst, arith, inl, inr, append_assoc, ltb-true, lt-ltb, ℕ, zero, suc, ◌+◌, ◌-◌, ◌^◌, ◌<◌, Bool, true, false, cond, ◌||◌, List, [], ◌∷◌, ◌++◌, length, map, Some, None}
 use Rattle.std.specs.Prelude.{◌⊎◌, slice_get, position, nat_lt, codes, not}
 use Rattle.std.specs.Fmt.{decimal}
 use Rattle.std.specs.List.{list_any, position_or_len}
@@ -7,13 +7,12 @@ use Rattle.std.specs.Map.{lookup}
 use Rattle.std.specs.Str.{bytes_eq}
 use Rattle.std.proofs.lemmas.Bool.{cases_lt}
 use Rattle.std.proofs.lemmas.Fmt.{decimal_injective}
-use Rattle.std.proofs.lemmas.Option.{slice_get_within}
 use Rattle.std.proofs.lemmas.Slice.Eq.{bytes_eq-Decides}
 use Rattle.cf_tree.specs.Tree.{Binder}
-use Rattle.cf_elab.specs.Scope.{Globals, ctor_of, is_named, is_taken, settled, start, type_of, variable_of, with_own, with_type, with_variable}
+use Rattle.cf_elab.specs.Scope.{Globals, is_named, is_taken, settled, start, with_own, with_type, with_variable}
 use Rattle.cf_elab.specs.declared.numbers.CtorNumber.{CtorNumber}
 use Rattle.cf_parse.specs.Tokens.{begins_plain}
-use Rattle.cf_printed.proofs.Tables.{get_either, get_first, get_some}
+use Rattle.cf_printed.proofs.Tables.{get_either, get_first}
 
 -- the first that passes a test
 pub here : {A : Type 0} (p : A → Bool) (x : A) (xs : List A) → p x ≡ true → position p (x ∷ xs) ≡ Some 0
@@ -107,9 +106,9 @@ free g x e =
       variables = λ i f. true_false (bytes_eq x x) (equal x) (none_at (bytes_eq x) g.variables c.0 i x f);
       types = λ i f. true_false (bytes_eq x x) (equal x) (none_at (bytes_eq x) g.types c.1 i x f);
       ctors = λ i k f. elim (get_either g.ctors g.own i (x, k) f) [
-          inl h ↦ true_false (bytes_eq x x) (equal x) (none_at (λ c. bytes_eq x c.0) g.ctors b.1 i (x, k) h)
+        | inl h ↦ true_false (bytes_eq x x) (equal x) (none_at (λ c. bytes_eq x c.0) g.ctors b.1 i (x, k) h)
         | inr h ↦ true_false (bytes_eq x x) (equal x) (none_at (λ c. bytes_eq x c.0) g.own a.1 h.0 (x, k) h.2)
-        ]
+      ];
     }
 
 once_front : (x : List ℕ) (xs : List (List ℕ)) → ((i : ℕ) → slice_get xs i ≡ Some x → ⊥) → Once xs → Once (x ∷ xs)
@@ -123,6 +122,7 @@ once_back x xs f o i j y e h = cases (get_either xs (x ∷ []) i y e) (get_eithe
   where
     Where : ℕ → Type 0
     Where n = (slice_get xs n ≡ Some y) ⊎ ((m : ℕ) × (n ≡ length xs + m) × (slice_get (x ∷ []) m ≡ Some y))
+
     cases : (slice_get xs i ≡ Some y) ⊎ ((m : ℕ) × (i ≡ length xs + m) × (slice_get (x ∷ []) m ≡ Some y)) → (slice_get xs j ≡ Some y) ⊎ ((m : ℕ) × (j ≡ length xs + m) × (slice_get (x ∷ []) m ≡ Some y)) → i ≡ j
     cases (inl a) (inl b) = o i j y a b
     cases (inl a) (inr b) = let q = get_first x b.0 y b.2 in absurd (f i (subst (λ z. slice_get xs i ≡ Some z) (sym q.1) a))
@@ -150,9 +150,10 @@ distinct_type g x t d = record { variables = d.variables; types = once_back x g.
 
 pub distinct_own : (g : Globals) (x : List ℕ) (k : CtorNumber) → is_taken g x ≡ false → Distinct g → Distinct (with_own x k g)
 distinct_own g x k t d = record {
-    variables = d.variables; types = d.types;
-    ctors = subst KeysOnce (append_assoc g.ctors g.own ((x, k) ∷ [])) (keys_back (x, k) (g.ctors ++ g.own) (free g x t).ctors d.ctors)
-  }
+  variables = d.variables;
+  types = d.types;
+  ctors = subst KeysOnce (append_assoc g.ctors g.own ((x, k) ∷ [])) (keys_back (x, k) (g.ctors ++ g.own) (free g x t).ctors d.ctors);
+}
 
 append_nil : {A : Type 0} (xs : List A) → xs ≡ xs ++ []
 append_nil [] = refl
@@ -166,10 +167,10 @@ entry_is e x k h = let f : e ≡ (x, k) = cc in ap (λ q. q.0) f
 
 pub distinct_start : Distinct start
 distinct_start = record {
-    variables = λ i j x e h. absurd (cc);
-    types = once_front (codes "Flag") [] (λ i e. cc) (λ i j x e h. absurd (cc));
-    ctors = ctors_once
-  }
+  variables = λ i j x e h. absurd (cc);
+  types = once_front (codes "Flag") [] (λ i e. cc) (λ i j x e h. absurd (cc));
+  ctors = ctors_once;
+}
   where
     no_is_yes : (x : List ℕ) (k l : CtorNumber) → slice_get start.ctors 0 ≡ Some (x, k) → slice_get start.ctors 1 ≡ Some (x, l) → ⊥
     no_is_yes x k l e h =
@@ -203,7 +204,7 @@ local_apart k m h l = apart (local_name k) (local_name m) (λ e.
 pub local_found : (m k : ℕ) (rest : List Binder) → k < m → m < 2 ^ 64 → position (is_named (local_name k)) (locals m ++ rest) ≡ Some (m - suc k)
 local_found zero k rest h l = absurd (omega arith)
 local_found (suc m) k rest h l = elim (cases_lt k m) [
-    inl i ↦
+  | inl i ↦
       let r = local_found m k rest i (omega arith) in
       let q : suc (m - suc k) ≡ suc m - suc k = omega arith in
       there (is_named (local_name k)) (Some (local_name m)) (locals m ++ rest) (m - suc k) (local_apart k m i (omega arith)) r ∙ ap Some q
@@ -211,7 +212,7 @@ local_found (suc m) k rest h l = elim (cases_lt k m) [
       let e : m ≡ k = omega arith in
       let q : 0 ≡ suc m - suc k = omega arith in
       here (is_named (local_name k)) (Some (local_name m)) (locals m ++ rest) (ap (λ z. bytes_eq (local_name k) (local_name z)) e ∙ equal (local_name k)) ∙ ap Some q
-  ]
+]
 
 plain_apart : (x : List ℕ) (m : ℕ) → begins_plain x ≡ true → bytes_eq x (local_name m) ≡ false
 plain_apart x m p = apart x (local_name m) (λ e. let f : begins_plain (local_name m) ≡ true = subst (λ z. begins_plain z ≡ true) e p in cc)

@@ -1,11 +1,11 @@
 -- The tokens of printed lines are the printed tokens.
-use Rattle.std.proofs.Common.{◌≡◌, refl, sym, ap, ◌∙◌, subst, arith, ℕ, ◌+◌, Bool, true, false, ◌&&◌, List, [], ◌∷◌, ◌++◌, length, Some, append_assoc, length-append}
+use Rattle.std.proofs.Common.{◌≡◌, refl, sym, ◌∙◌, subst, arith, ℕ, ◌+◌, Bool, true, false, List, [], ◌∷◌, ◌++◌, length, Some, append_assoc, length-append}
 use Rattle.std.specs.Prelude.{codes}
-use Rattle.std.specs.Str.{all_scalars, encode_utf8_all}
+use Rattle.std.specs.Str.{all_scalars}
 use Rattle.std.proofs.lemmas.Str.{encodes-append}
 use Rattle.unicode_ident.proofs.Computing.{unicode_ident}
 use Rattle.cf_lex.specs.Lexed.{AreChars}
-use Rattle.cf_lex.specs.Tokens.{IsFront, Item, Lexes, spelled, width}
+use Rattle.cf_lex.specs.Tokens.{IsFront, Item, Lexes, spelled}
 use Rattle.cf_lex.specs.declared.piece.Piece.TheVariants as read
 use Rattle.cf_core_text.specs.declared.pieces.Piece.{Piece}
 use Rattle.cf_core_text.specs.Names.{Names}
@@ -70,7 +70,7 @@ gap_follows N p q t u more false e = stopper_follows t.0 (lexeme_of p) 32 (u.0 +
 taken : (N : Names) (n : ℕ) (p : Piece) (t : IsToken N p) (rest : List ℕ) (items : List Item) (m : ℕ) → Follows t.0 rest → Lexes (n + length (spelling N p)) rest items m [] → Lexes n (t.0 ++ rest) (item N n p ∷ items) m []
 taken N n p t rest items m f l =
     subst (λ text. Lexes n (t.0 ++ rest) (record { start = n; lexeme = lexeme_of p; text = text } ∷ items) m []) t.1.1
-      (Lexes.takes n (lexeme_of p) t.0 rest items m [] (front (read.Token (lexeme_of p)) t.0 rest t.2 f) (subst (λ text. Lexes (n + length text) rest items m []) (sym t.1.1) l))
+    (Lexes.takes n (lexeme_of p) t.0 rest items m [] (front (read.Token (lexeme_of p)) t.0 rest t.2 f) (subst (λ text. Lexes (n + length text) rest items m []) (sym t.1.1) l))
 
 -- tokens behind another one, and then a line feed
 lexed_behind : (N : Names) (n : ℕ) (p : Piece) (ps : List Piece) (t : IsToken N p) → AreTokens N ps → (k : ℕ) (bytes : List ℕ) (items : List Item) (m : ℕ) → k ≡ n + length (behind N p ps) → Feeds k bytes items m → Goes t.0 n (behind N p ps ++ bytes) (items_behind N n p ps ++ items) m
@@ -86,7 +86,7 @@ lexed_behind N n p (q ∷ qs) t ts k bytes items m e f =
     record {
       cs = gap p q ++ (ts.0.0 ++ r.cs);
       chars = subst (λ z. AreChars z (gap p q ++ (ts.0.0 ++ r.cs))) (sym same)
-        (chars_append (gap p q) (spelling N q ++ (behind N q qs ++ bytes)) (gap p q) (ts.0.0 ++ r.cs) (gap_chars (tight p q)) (chars_append (spelling N q) (behind N q qs ++ bytes) ts.0.0 r.cs ts.0.1 r.chars));
+          (chars_append (gap p q) (spelling N q ++ (behind N q qs ++ bytes)) (gap p q) (ts.0.0 ++ r.cs) (gap_chars (tight p q)) (chars_append (spelling N q) (behind N q qs ++ bytes) ts.0.0 r.cs ts.0.1 r.chars));
       lexes = gapped (tight p q) n a (ts.0.0 ++ r.cs) (item N a q ∷ (items_behind N b q qs ++ items)) m refl (taken N a q ts.0 r.cs (items_behind N b q qs ++ items) m r.follows r.lexes);
       follows = gap_follows N p q t ts.0 r.cs (tight p q) refl;
     }

@@ -1,30 +1,25 @@
 -- Lists of terms, data types, constructors and branches, as printed tokens that derive them.
-use Rattle.std.proofs.Common.{◌≡◌, refl, sym, ap, ◌∙◌, subst, arith, append_assoc, ℕ, zero, suc, ◌+◌, Bool, true, false, List, [], ◌∷◌, ◌++◌, length, take, drop, Some}
-use Rattle.std.specs.Prelude.{slice_get}
-use Rattle.cf_base.specs.declared.at.At.{At}
+use Rattle.std.proofs.Common.{◌≡◌, refl, ap, ◌∙◌, subst, append_assoc, ℕ, zero, suc, true, false, List, [], ◌∷◌, ◌++◌, length, take, drop, Some}
 use Rattle.cf_lex.specs.declared.keywords.Keyword.TheVariants as keyword
 use Rattle.cf_lex.specs.declared.marks.Mark.TheVariants as sign
 use Rattle.cf_grammar.specs.Grammar.{Takes}
 use Rattle.cf_grammar.specs.declared.phrases.Phrase.TheVariants as phrase
 use Rattle.cf_grammar.specs.declared.phrases.Symbol.TheVariants.{Phrase as a}
-use Rattle.cf_tree.specs.declared.heads.Head.TheVariants as head
 use Rattle.cf_tree.specs.Tree as trees
 use Rattle.cf_tree.specs.Tree.{Binder, Named, Plain, Tree, Trees, tree}
-use Rattle.cf_term.specs.Core.{Tm, Tms, cons, nil, node, Branch, CaseH, ConH, DataH}
+use Rattle.cf_term.specs.Core.{Tms, cons, nil, node, ConH, DataH}
 use Rattle.cf_parse.specs.Meaning.{Sem, arms_in, binders_in, parts, terms_in}
 use Rattle.cf_parse.specs.Meaning as meant
 use Rattle.cf_elab.specs.Scope.{Globals, type_of}
-use Rattle.cf_elab.specs.declared.numbers.CtorNumber.{CtorNumber}
 use Rattle.cf_core_text.specs.Names.{Names, ctor_name, type_name}
-use Rattle.cf_core_text.specs.Pieces.{Printed, arm, arms, bracketed, further, listed, more_arms, names, variable}
+use Rattle.cf_core_text.specs.Pieces.{Printed, bracketed, further, listed}
 use Rattle.cf_core_text.specs.declared.pieces.Piece.{Piece}
 use Rattle.cf_core_text.specs.declared.pieces.Piece.TheVariants as piece
 use Rattle.cf_printed.specs.Scoped.{AreAtLeast, IsCtor}
 use Rattle.cf_printed.proofs.Deriving.{Gives, g_both, g_last, g_map, g_none, g_phrase, g_same, g_token}
-use Rattle.cf_printed.proofs.Forms.{Finds, binder_g}
-use Rattle.cf_printed.proofs.Placed.{AsAtom, AsTerm, Tree_of}
-use Rattle.cf_printed.proofs.Resolving.{AreAll, Is, are_branch, are_none, are_part, is_construction, is_data, is_form}
-use Rattle.cf_printed.proofs.Found.{local_name, locals}
+use Rattle.cf_printed.proofs.Forms.{Finds}
+use Rattle.cf_printed.proofs.Placed.{AsAtom, AsTerm}
+use Rattle.cf_printed.proofs.Resolving.{AreAll, Is, are_none, are_part, is_construction, is_data}
 
 append_nil : {A : Type 0} (xs : List A) → xs ++ [] ≡ xs
 append_nil [] = refl
@@ -115,7 +110,7 @@ module _ (N : Names) (g : Globals) (ls : List Binder) where
   more_terms (f ∷ fs) nil h e = absurd h
   more_terms (f ∷ fs) (cons u us) h e = g_map N
       (g_phrase N (phrase.MoreTerms true e) 1 refl
-        (g_token N (piece.Mark sign.Comma) (f.pieces ++ further fs) Takes.exact (g_both N f.pieces (further fs) (h.0 (suc e)) (g_last N (further fs) (more_terms fs us h.1 e)))))
+      (g_token N (piece.Mark sign.Comma) (f.pieces ++ further fs) Takes.exact (g_both N f.pieces (further fs) (h.0 (suc e)) (g_last N (further fs) (more_terms fs us h.1 e)))))
       (λ x. (meant.also (meant.term x.1.1.0.0) x.1.1.1.0, (x.1.1.0.1, x.1.1.1.1)))
       (λ x. refl)
 
@@ -132,38 +127,39 @@ module _ (N : Names) (g : Globals) (ls : List Binder) where
   pub data_form : (n : ℕ) → type_of g (type_name N n) ≡ Some n → (fs : List Printed) (us : Tms) → EachTerm fs us → AsAtom N g (piece.DataType n ∷ bracketed fs []) ls (node (DataH n) us)
   data_form n q fs us h e = g_map N
       (g_phrase N (phrase.Atom true e) 0 refl
-        (g_token N (piece.DataType n) (bracketed fs []) Takes.any_name
-          (g_last N (bracketed fs [])
-            (g_phrase N (phrase.Brackets true e) 1 refl
-              (g_token N (piece.Mark sign.OpenBracket) _ Takes.exact
-                (g_both N (listed fs) (piece.Mark sign.CloseBracket ∷ []) (terms_form fs us h e) (g_token N (piece.Mark sign.CloseBracket) [] Takes.exact (g_none N))))))))
+      (g_token N (piece.DataType n) (bracketed fs []) Takes.any_name
+      (g_last N (bracketed fs [])
+      (g_phrase N (phrase.Brackets true e) 1 refl
+      (g_token N (piece.Mark sign.OpenBracket) _ Takes.exact
+      (g_both N (listed fs) (piece.Mark sign.CloseBracket ∷ []) (terms_form fs us h e) (g_token N (piece.Mark sign.CloseBracket) [] Takes.exact (g_none N))))))))
       (λ x. let d : Named = record { at = meant.place false x.1.0; name = type_name N n } in
-        (tree x.0 (trees.DataAt d) (parts (terms_in x.1.1.1.1.0.0)), is_data g ls x.0 d (parts (terms_in x.1.1.1.1.0.0)) n us q (each_are (terms_in x.1.1.1.1.0.0) us x.1.1.1.1.0.1)))
+      (tree x.0 (trees.DataAt d) (parts (terms_in x.1.1.1.1.0.0)), is_data g ls x.0 d (parts (terms_in x.1.1.1.1.0.0)) n us q (each_are (terms_in x.1.1.1.1.0.0) us x.1.1.1.1.0.1)))
       (λ x. refl)
 
   -- con c[..](..)
   pub con_form : (finds : Finds N g) (n c k : ℕ) → IsCtor g n c → (fs : List Printed) (us : Tms) → AreAtLeast k us → EachTerm fs us →
-    AsAtom N g (piece.Word keyword.Con ∷ piece.Ctor n c ∷ bracketed (take k fs) (piece.Fields ∷ (listed (drop k fs) ++ piece.Mark sign.CloseParen ∷ []))) ls (node (ConH n c k) us)
+      AsAtom N g (piece.Word keyword.Con ∷ piece.Ctor n c ∷ bracketed (take k fs) (piece.Fields ∷ (listed (drop k fs) ++ piece.Mark sign.CloseParen ∷ []))) ls (node (ConH n c k) us)
   con_form finds n c k i fs us l h e =
       let found = finds.ctors n c i in
       let fields : List Piece = piece.Fields ∷ (listed (drop k fs) ++ piece.Mark sign.CloseParen ∷ []) in
       let brackets : List Piece = piece.Mark sign.OpenBracket ∷ (listed (take k fs) ++ piece.Mark sign.CloseBracket ∷ []) in
       g_same N (ap (λ z. piece.Word keyword.Con ∷ piece.Ctor n c ∷ piece.Mark sign.OpenBracket ∷ z) (append_assoc (listed (take k fs)) (piece.Mark sign.CloseBracket ∷ []) fields))
-        (g_map N
-          (g_phrase N (phrase.Atom true e) 3 refl
-            (g_token N (piece.Word keyword.Con) (piece.Ctor n c ∷ (brackets ++ fields)) Takes.exact
-              (g_token N (piece.Ctor n c) (brackets ++ fields) Takes.any_name
-                (g_both N brackets fields
-                  (g_phrase N (phrase.ConBrackets true e) 0 refl
-                    (g_token N (piece.Mark sign.OpenBracket) _ Takes.exact
-                      (g_both N (listed (take k fs)) (piece.Mark sign.CloseBracket ∷ []) (terms_form (take k fs) (front k us) (front_terms k fs us h) e) (g_token N (piece.Mark sign.CloseBracket) [] Takes.exact (g_none N)))))
-                  (g_token N piece.Fields _ Takes.exact
-                    (g_both N (listed (drop k fs)) (piece.Mark sign.CloseParen ∷ []) (terms_form (drop k fs) (back k us) (back_terms k fs us h) e) (g_token N (piece.Mark sign.CloseParen) [] Takes.exact (g_none N))))))))
-          (λ x.
-            let d : Named = record { at = meant.place false x.1.1.0; name = ctor_name N n c } in
-            let ps : List Tree = terms_in x.1.1.1.0.1.1.0.0 in
-            let ts : List Tree = terms_in x.1.1.1.1.1.0.0 in
-            let both : EachIs (ps ++ ts) us = subst (EachIs (ps ++ ts)) (front_back k us) (each_joined ps ts (front k us) (back k us) x.1.1.1.0.1.1.0.1 x.1.1.1.1.1.0.1) in
-            (tree x.0 (trees.ConAt d (Some (length ps))) (parts (ps ++ ts)),
-             is_construction g ls x.0 d (parts (ps ++ ts)) found.0 n c k (length ps) us found.1 found.2 found.3 (each_length ps (front k us) x.1.1.1.0.1.1.0.1 ∙ front_count k us l) (each_are (ps ++ ts) us both)))
-          (λ x. refl))
+      (g_map N
+      (g_phrase N (phrase.Atom true e) 3 refl
+      (g_token N (piece.Word keyword.Con) (piece.Ctor n c ∷ (brackets ++ fields)) Takes.exact
+      (g_token N (piece.Ctor n c) (brackets ++ fields) Takes.any_name
+      (g_both N brackets fields
+      (g_phrase N (phrase.ConBrackets true e) 0 refl
+      (g_token N (piece.Mark sign.OpenBracket) _ Takes.exact
+      (g_both N (listed (take k fs)) (piece.Mark sign.CloseBracket ∷ []) (terms_form (take k fs) (front k us) (front_terms k fs us h) e) (g_token N (piece.Mark sign.CloseBracket) [] Takes.exact (g_none N)))))
+      (g_token N piece.Fields _ Takes.exact
+      (g_both N (listed (drop k fs)) (piece.Mark sign.CloseParen ∷ []) (terms_form (drop k fs) (back k us) (back_terms k fs us h) e) (g_token N (piece.Mark sign.CloseParen) [] Takes.exact (g_none N))))))))
+      (λ x.
+      let d : Named = record { at = meant.place false x.1.1.0; name = ctor_name N n c } in
+      let ps : List Tree = terms_in x.1.1.1.0.1.1.0.0 in
+      let ts : List Tree = terms_in x.1.1.1.1.1.0.0 in
+      let both : EachIs (ps ++ ts) us = subst (EachIs (ps ++ ts)) (front_back k us) (each_joined ps ts (front k us) (back k us) x.1.1.1.0.1.1.0.1 x.1.1.1.1.1.0.1) in (
+        tree x.0 (trees.ConAt d (Some (length ps))) (parts (ps ++ ts)),
+        is_construction g ls x.0 d (parts (ps ++ ts)) found.0 n c k (length ps) us found.1 found.2 found.3 (each_length ps (front k us) x.1.1.1.0.1.1.0.1 ∙ front_count k us l) (each_are (ps ++ ts) us both),
+      ))
+      (λ x. refl))

@@ -1,5 +1,5 @@
 -- A piece is the longest where what follows cannot go on with it.
-use Rattle.std.proofs.Common.{◌≡◌, ◌≢◌, refl, sym, ap, ◌∙◌, subst, eqb-true, arith, inl, inr, ℕ, ◌≤◌, Bool, true, false, ◌&&◌, ◌||◌, List, [], ◌∷◌, ◌++◌, length, Option, Some, None}
+use Rattle.std.proofs.Common.{◌≡◌, ◌≢◌, refl, sym, ◌∙◌, subst, eqb-true, arith, inl, inr, ℕ, ◌≤◌, Bool, true, false, ◌&&◌, ◌||◌, List, [], ◌∷◌, ◌++◌, length, Some, None}
 use Rattle.std.specs.Prelude.{◌⊎◌, ◌==◌, if◌then◌else◌}
 use Rattle.std.specs.List.{list_all}
 use Rattle.unicode_ident.proofs.Computing.{unicode_ident}
@@ -53,12 +53,12 @@ Follows cs rest = (x : ℕ) (xs : List ℕ) → cs ≡ x ∷ xs → (c : ℕ) (t
 pub front : (p : Piece) (cs rest : List ℕ) → spelled cs ≡ Some p → Follows cs rest → IsFront p cs rest
 front p [] rest e f = absurd (cc)
 front p (x ∷ xs) rest e f = record {
-    spells = e;
-    longest = λ q other left so g. elim (longer other left (x ∷ xs) rest g) [
-        inl l ↦ l
-      | inr r ↦ absurd (no_longer x xs r.0 r.1 (f x xs refl r.0 r.2 r.4) (xs ++ r.0 ∷ r.1) refl (behind x (xs ++ r.0 ∷ r.1) q (subst (λ z. spelled z ≡ Some q) r.3 so)))
-      ]
-  }
+  spells = e;
+  longest = λ q other left so g. elim (longer other left (x ∷ xs) rest g) [
+    | inl l ↦ l
+    | inr r ↦ absurd (no_longer x xs r.0 r.1 (f x xs refl r.0 r.2 r.4) (xs ++ r.0 ∷ r.1) refl (behind x (xs ++ r.0 ∷ r.1) q (subst (λ z. spelled z ≡ Some q) r.3 so)))
+  ];
+}
 
 -- a text that goes on with no mark or comment
 pub record Solid (x : ℕ) (xs : List ℕ) : Type 0 where
@@ -103,15 +103,15 @@ comment_is_none ys l e = either (list_all stays_on_line ys) e
 
 solid : (x : ℕ) (xs : List ℕ) (l : Lexeme) → spelled (x ∷ xs) ≡ Some (piece.Token l) → Solid x xs
 solid x [] l e = record {
-    pairless = λ c f p. pairs x c p (λ m. bar_is_none l (subst (λ y. spelled (y ∷ []) ≡ Some (piece.Token l)) m e)) (λ m. equals_is_none l (subst (λ y. spelled (y ∷ []) ≡ Some (piece.Token l)) m e));
-    uncommented = λ c more ys m f. bar_is_none l (subst (λ y. spelled (y ∷ []) ≡ Some (piece.Token l)) m e)
-  }
+  pairless = λ c f p. pairs x c p (λ m. bar_is_none l (subst (λ y. spelled (y ∷ []) ≡ Some (piece.Token l)) m e)) (λ m. equals_is_none l (subst (λ y. spelled (y ∷ []) ≡ Some (piece.Token l)) m e));
+  uncommented = λ c more ys m f. bar_is_none l (subst (λ y. spelled (y ∷ []) ≡ Some (piece.Token l)) m e);
+}
 solid x (y ∷ ys) l e = record {
-    pairless = λ c f p. absurd (cc);
-    uncommented = λ c more zs m f.
-        let g : y ≡ 45 = cc in
-        comment_is_none ys l (subst (λ u. spelled (45 ∷ u ∷ ys) ≡ Some (piece.Token l)) g (subst (λ u. spelled (u ∷ y ∷ ys) ≡ Some (piece.Token l)) m e))
-  }
+  pairless = λ c f p. absurd (cc);
+  uncommented = λ c more zs m f.
+      let g : y ≡ 45 = cc in
+      comment_is_none ys l (subst (λ u. spelled (45 ∷ u ∷ ys) ≡ Some (piece.Token l)) g (subst (λ u. spelled (u ∷ y ∷ ys) ≡ Some (piece.Token l)) m e));
+}
 
 -- such a character may follow any token
 pub stopper_follows : (cs : List ℕ) (l : Lexeme) (c : ℕ) (tail : List ℕ) → spelled cs ≡ Some (piece.Token l) → IsStopper c → Follows cs (c ∷ tail)

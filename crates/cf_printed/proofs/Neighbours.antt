@@ -1,5 +1,5 @@
 -- Printed tokens side by side: no neighbours without a space make another token.
-use Rattle.std.proofs.Common.{◌≡◌, ◌≢◌, refl, sym, ap, ◌∙◌, subst, arith, inl, inr, ℕ, Bool, true, false, ◌||◌, List, [], ◌∷◌, ◌++◌, Some}
+use Rattle.std.proofs.Common.{◌≡◌, refl, sym, ◌∙◌, subst, arith, inl, inr, ℕ, true, List, [], ◌∷◌, ◌++◌, Some}
 use Rattle.std.specs.Prelude.{◌⊎◌}
 use Rattle.std.specs.Str.{encode_utf8_all}
 use Rattle.std.proofs.lemmas.Str.{encodes_same}
@@ -14,7 +14,6 @@ use Rattle.cf_core_text.specs.declared.pieces.Piece.TheVariants as piece
 use Rattle.cf_core_text.specs.Names.{Names}
 use Rattle.cf_core_text.specs.Text.{mark_text, opens, spelling, tight}
 use Rattle.cf_printed.specs.Printed.{lexeme_of}
-use Rattle.cf_printed.proofs.Behind.{goes_on, heads, pair}
 use Rattle.cf_printed.proofs.Longest.{Follows, IsStopper, Stops, open_follows, opener, stopper_follows}
 use Rattle.cf_printed.proofs.Truth.{or_false}
 
@@ -100,8 +99,8 @@ one_char text cs c e f g = encodes_same cs (c ∷ []) (g ∙ e ∙ sym f)
 -- a token without a space before it does not go on with the one in front
 pub tight_follows : (N : Names) (p q : Piece) → tight p q ≡ true → (t : IsToken N p) (u : IsToken N q) (more : List ℕ) → Follows t.0 (u.0 ++ more)
 tight_follows N p q e t u more = elim (tight_pair N p q e) [
-    inl o ↦ let k = all_open N p o in
+  | inl o ↦ let k = all_open N p o in
       open_follows t.0 (u.0 ++ more) k.0 (one_char (spelling N p) t.0 k.0 k.1 k.2 t.1.1) k.3
   | inr k ↦ let f : u.0 ≡ k.0 ∷ [] = one_char (spelling N q) u.0 k.0 k.1 k.2 u.1.1 in
       subst (λ z. Follows t.0 (z ++ more)) (sym f) (stopper_follows t.0 (lexeme_of p) k.0 more t.2 k.3)
-  ]
+]

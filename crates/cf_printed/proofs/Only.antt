@@ -1,14 +1,12 @@
 -- Whatever a printed core reads as has that core.
 use Rattle.std.proofs.Common.{◌≡◌, sym, ap, ◌∙◌, subst, ℕ, true, false, List, [], length}
 use Rattle.std.specs.Prelude.{Ok}
-use Rattle.std.specs.Str.{encode_utf8_all}
 use Rattle.std.proofs.lemmas.Str.{encodes_same}
 use Rattle.cf_lex.specs.Laws.{LexesOne}
-use Rattle.cf_lex.specs.Lexed.{IsLexed, Lexed, TokenList}
+use Rattle.cf_lex.specs.Lexed.{Lexed, TokenList}
 use Rattle.cf_lex.specs.Names.{first_seen, names_in, tokens_of as items_tokens}
-use Rattle.cf_lex.specs.Tokens.{Item, Lexes}
-use Rattle.cf_lex.specs.declared.token.Token.{Token}
-use Rattle.cf_tree.specs.Tree.{Program, is_explicit}
+use Rattle.cf_lex.specs.Tokens.{Lexes}
+use Rattle.cf_tree.specs.Tree.{is_explicit}
 use Rattle.cf_parse.specs.Laws.{ReadsOne}
 use Rattle.cf_parse.specs.Reads.{ReadsUnlimited}
 use Rattle.cf_parse.specs.Tokens.{tokens_of}

@@ -1,5 +1,5 @@
 -- What a printed form derives at each place where it stands.
-use Rattle.std.proofs.Common.{◌≡◌, refl, sym, ap, ◌∙◌, subst, append_assoc, ℕ, suc, Bool, true, false, List, [], ◌∷◌, ◌++◌, Some}
+use Rattle.std.proofs.Common.{◌≡◌, refl, ap, ℕ, suc, true, false, List, [], ◌∷◌, ◌++◌}
 use Rattle.std.specs.Prelude.{if◌then◌else◌}
 use Rattle.cf_base.specs.declared.at.At.{At}
 use Rattle.cf_lex.specs.declared.marks.Mark.TheVariants as sign
@@ -19,7 +19,7 @@ use Rattle.cf_core_text.specs.declared.pieces.Piece.{Piece}
 use Rattle.cf_core_text.specs.declared.pieces.Piece.TheVariants as piece
 use Rattle.cf_core_text.specs.declared.pieces.Place.{Place}
 use Rattle.cf_core_text.specs.declared.pieces.Place.TheVariants as place
-use Rattle.cf_printed.proofs.Deriving.{Gives, Means, Spell, at_of, cut, g_both, g_map, g_none, g_phrase, g_same, g_token, means_both, means_none, means_phrase, means_token, token_at}
+use Rattle.cf_printed.proofs.Deriving.{Gives, Means, Spell, at_of, cut, g_both, g_map, g_none, g_phrase, g_token, means_both, means_none, means_phrase, means_token, token_at}
 use Rattle.cf_printed.proofs.Resolving.{Is, is_two}
 
 append_nil : {A : Type 0} (xs : List A) → xs ++ [] ≡ xs
@@ -112,8 +112,8 @@ module _ (N : Names) (g : Globals) where
         let c = cut N ps qs ks m ms s in
         let y = i e (c.first ∷ c.others) m ms c.back in
         let more = λ (j : ℕ).
-          means_phrase (phrase.Args true e j) 1 (c.first ∷ c.others) t ts refl
-            (means_both (means_phrase (phrase.Arg true e j) 0 (c.first ∷ c.others) m ms refl (means_both y.1 (means_none (m ∷ ms)))) (means_both (f (suc j)) (means_none (t ∷ ts)))) in
+        means_phrase (phrase.Args true e j) 1 (c.first ∷ c.others) t ts refl
+        (means_both (means_phrase (phrase.Arg true e j) 0 (c.first ∷ c.others) m ms refl (means_both y.1 (means_none (m ∷ ms)))) (means_both (f (suc j)) (means_none (t ∷ ts)))) in
         let r = h e ks c.first c.others t ts (meant.also (meant.argument false y.0.0) xs) c.front more in
         let p : At = r.0.0 in
         ((p, (form p (head.App false) (r.0.1.0 ∷ y.0.0 ∷ []), is_two g ls p (head.App false) r.0.1.0 y.0.0 u v (node (AppH false) (cons u (cons v nil))) r.0.1.1 y.0.1 (λ n. refl))), r.1)
@@ -128,12 +128,14 @@ module _ (N : Names) (g : Globals) where
     left_chain ps u h e ks t ts s = let r = h e ks t ts t ts meant.nothing s (λ k. no_operands e k t ts) in (r.0.1, r.1)
 
     operand : (e : ℕ) (qs : List Piece) (v : Tm) → AsAtom qs ls v → (ks : List Token) (m : Token) (ms : List Token) (t : Token) (ts : List Token) (xs : Sem) → Spell N (piece.Mark sign.At ∷ qs) ks (m ∷ ms) → ((k : ℕ) → Means (a (phrase.Operands true e k)) (m ∷ ms) xs (t ∷ ts)) →
-      (y : Tree_of ls v) × ((k : ℕ) → Means (a (phrase.Operands true e k)) ks (meant.also (meant.term y.0) xs) (t ∷ ts))
+        (y : Tree_of ls v) × ((k : ℕ) → Means (a (phrase.Operands true e k)) ks (meant.also (meant.term y.0) xs) (t ∷ ts))
     operand e qs v i ks m ms t ts xs (Spell.more {n = n} {ks = us} s) f =
-        let y = head_app qs v (atom_head qs v i) e us m ms s in
-        (y.0, λ k. means_phrase (phrase.Operands true e k) 1 ks t ts refl
-          (means_both (means_token (token_at N n (piece.Mark sign.At)) us Takes.exact)
-            (means_both (means_phrase (phrase.Operand true e k) 0 us m ms refl (means_both y.1 (means_none (m ∷ ms)))) (means_both (f (suc k)) (means_none (t ∷ ts))))))
+        let y = head_app qs v (atom_head qs v i) e us m ms s in (
+          y.0,
+          λ k. means_phrase (phrase.Operands true e k) 1 ks t ts refl
+              (means_both (means_token (token_at N n (piece.Mark sign.At)) us Takes.exact)
+              (means_both (means_phrase (phrase.Operand true e k) 0 us m ms refl (means_both y.1 (means_none (m ∷ ms)))) (means_both (f (suc k)) (means_none (t ∷ ts))))),
+        )
 
     -- one operand more
     pub chained : (ps qs : List Piece) (u v : Tm) → AsLeft ps ls u → AsAtom qs ls v → AsLeft (ps ++ piece.Mark sign.At ∷ qs) ls (node OAppH (cons u (cons v nil)))
@@ -155,10 +157,10 @@ module _ (N : Names) (g : Globals) where
     enclosed_atom : (ps : List Piece) (u : Tm) → AsTerm ps ls u → AsAtom (enclosed ps) ls u
     enclosed_atom ps u h e = g_map N
         (g_phrase N (phrase.Atom true e) 4 refl
-          (g_token N (piece.Mark sign.OpenParen) (ps ++ piece.Mark sign.CloseParen ∷ []) Takes.exact
-            (g_both N ps (piece.Mark sign.CloseParen ∷ []) (h (suc e))
-              (g_both N [] (piece.Mark sign.CloseParen ∷ []) (g_phrase N (phrase.Second true e) 0 refl (g_none N))
-                (g_token N (piece.Mark sign.CloseParen) [] Takes.exact (g_none N))))))
+        (g_token N (piece.Mark sign.OpenParen) (ps ++ piece.Mark sign.CloseParen ∷ []) Takes.exact
+        (g_both N ps (piece.Mark sign.CloseParen ∷ []) (h (suc e))
+        (g_both N [] (piece.Mark sign.CloseParen ∷ []) (g_phrase N (phrase.Second true e) 0 refl (g_none N))
+        (g_token N (piece.Mark sign.CloseParen) [] Takes.exact (g_none N))))))
         (λ x. x.1.1.0) (λ x. refl)
 
     -- at each place

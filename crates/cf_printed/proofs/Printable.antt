@@ -1,10 +1,9 @@
 -- The printed tokens of a term are tokens, where its names and numbers are.
-use Rattle.std.proofs.Common.{◌≡◌, refl, sym, ap, ◌∙◌, subst, arith, ltb-true, ℕ, zero, suc, ◌+◌, ◌-◌, ◌^◌, ◌<◌, ◌≤◌, Bool, true, false, List, [], ◌∷◌, ◌++◌, length, take, drop, Option, Some, None}
-use Rattle.std.specs.Prelude.{nat_lt, if◌then◌else◌, ℤ, IsTrue}
+use Rattle.std.proofs.Common.{◌≡◌, refl, arith, ltb-true, ℕ, zero, suc, ◌+◌, ◌-◌, ◌^◌, ◌<◌, Bool, true, false, List, [], ◌∷◌, ◌++◌, length, take, drop, Option, Some, None}
+use Rattle.std.specs.Prelude.{nat_lt, if◌then◌else◌}
 use Rattle.cf_lex.specs.declared.keywords.Keyword.{Keyword}
 use Rattle.cf_lex.specs.declared.keywords.Keyword.TheVariants as keyword
 use Rattle.cf_lex.specs.declared.marks.Mark.TheVariants as sign
-use Rattle.cf_parse.specs.Reads.{fits_word}
 use Rattle.cf_term.specs.Core.{Tm, var, node, Tms, nil, cons, Part, parts, first_part, rest_parts, branch_parts, Branch, Head, PiH, LamH, AppH, LetH, SigH, ZeroH, SucH, LiftH, QuoteH, DataH, ArrH, LitH, LetVH, LetRecH, OLamH, OAppH, ConH, CaseH, SpliceH, HoleH, MarkH}
 use Rattle.cf_elab.specs.Scope.{Globals}
 use Rattle.cf_core_text.specs.declared.pieces.Piece.{Piece}
@@ -12,7 +11,7 @@ use Rattle.cf_core_text.specs.declared.pieces.Piece.TheVariants as piece
 use Rattle.cf_core_text.specs.declared.pieces.Place.{Place}
 use Rattle.cf_core_text.specs.declared.pieces.Place.TheVariants as place
 use Rattle.cf_core_text.specs.Names.{Names}
-use Rattle.cf_core_text.specs.Pieces.{Printed, arm, arms, atoms, binder, bound, bracketed, defining, enclosed, form, further, group, listed, literal, more_arms, names, placed, printed, printed_all, shown, stands, successor, under, variable, word_of, worded, written}
+use Rattle.cf_core_text.specs.Pieces.{Printed, arm, arms, atoms, binder, bound, bracketed, defining, enclosed, further, listed, literal, more_arms, names, placed, printed, printed_all, stands, under, variable, word_of, worded, written}
 use Rattle.cf_printed.specs.Scoped.{AreCtors, AreScoped, HasParts, IsBound, IsCtor, IsScoped, IsSmall}
 use Rattle.cf_printed.proofs.Neighbours.{AreTokens, IsToken}
 use Rattle.cf_printed.proofs.Spelt.{fields_token, local_token, mark_token, natlit_token, whole_token, word_token}

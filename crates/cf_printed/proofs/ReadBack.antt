@@ -1,5 +1,5 @@
 -- A printed core reads back.
-use Rattle.std.proofs.Common.{◌≡◌, refl, ap, ℕ, true, false, List, [], ◌∷◌, Some}
+use Rattle.std.proofs.Common.{◌≡◌, refl, ap, ℕ, true, false, List, [], ◌∷◌}
 use Rattle.cf_lex.specs.Lexed.{TokenList}
 use Rattle.cf_lex.specs.declared.keywords.Keyword.TheVariants as keyword
 use Rattle.cf_lex.specs.declared.marks.Mark.TheVariants as sign
@@ -36,18 +36,21 @@ program_form : (ds : List Declaration) → AllScoped start ds → Gives (names_o
 program_form ds s =
     let N : Names = names_of ds in
     g_map N
-      (g_phrase N phrase.Program 0 refl
-        (g_token N (piece.Word keyword.Explicit) (piece.Mark sign.Semicolon ∷ flat (lines 1 0 ds)) Takes.exact
-          (g_token N (piece.Mark sign.Semicolon) (flat (lines 1 0 ds)) Takes.exact
-            (g_last N (flat (lines 1 0 ds)) (decls_form N start ds 1 0 refl refl (agrees_start ds) distinct_start s 0)))))
-      (λ x. (record { explicit = true; prelude = false; decls = decls_in x.1.1.1.0 }, refl, x.1.1.1.1))
-      (λ x. refl)
+    (g_phrase N phrase.Program 0 refl
+    (g_token N (piece.Word keyword.Explicit) (piece.Mark sign.Semicolon ∷ flat (lines 1 0 ds)) Takes.exact
+    (g_token N (piece.Mark sign.Semicolon) (flat (lines 1 0 ds)) Takes.exact
+    (g_last N (flat (lines 1 0 ds)) (decls_form N start ds 1 0 refl refl (agrees_start ds) distinct_start s 0)))))
+    (λ x. (record { explicit = true; prelude = false; decls = decls_in x.1.1.1.0 }, refl, x.1.1.1.1))
+    (λ x. refl)
 
 pub read_back : ReadsBack
 read_back ds s =
     let l : TokenList = printed_tokens ds in
     let r = program_form ds s (tokens_of l) (end_of l) [] (spelled ds) in
-    let u : ReadsUnlimited false (tokens_of l) r.0.0 = record { cst = r.1.cst; end_token = end_of l; parses = r.1.parses; ends = refl; means = ap program_in r.1.means } in
-    (l, r.0.0,
-     record { tokens = (refl, printed_lexed ds s); unlimited = u; limited = λ w. record { unlimited = u; limits = w r.0.0 u } },
-     r.0.1, (0, r.0.2 0))
+    let u : ReadsUnlimited false (tokens_of l) r.0.0 = record { cst = r.1.cst; end_token = end_of l; parses = r.1.parses; ends = refl; means = ap program_in r.1.means } in (
+      l,
+      r.0.0,
+      record { tokens = (refl, printed_lexed ds s); unlimited = u; limited = λ w. record { unlimited = u; limits = w r.0.0 u } },
+      r.0.1,
+      (0, r.0.2 0),
+    )

@@ -1,5 +1,5 @@
 -- The tokens of a printed program, as the grammar meets them.
-use Rattle.std.proofs.Common.{◌≡◌, refl, sym, ap, ◌∙◌, subst, arith, append_assoc, length-append, ℕ, suc, ◌+◌, ◌-◌, List, [], ◌∷◌, ◌++◌, length, map, take, drop}
+use Rattle.std.proofs.Common.{◌≡◌, refl, sym, ap, ◌∙◌, subst, arith, append_assoc, length-append, ℕ, ◌+◌, ◌-◌, List, [], ◌∷◌, ◌++◌, length, map, take}
 use Rattle.std.specs.Prelude.{slice_range}
 use Rattle.std.proofs.lemmas.List.{drop_at, take_at}
 use Rattle.cf_lex.specs.Lexed.{TokenList}
@@ -74,7 +74,7 @@ module _ (N : Names) (l : TokenList) (names : List (List ℕ)) where
       let c : l.text ≡ ((pre ++ gap p q) ++ spelling N q) ++ (behind N q ps ++ post) = a ∙ sym (append_assoc (pre ++ gap p q) (spelling N q) (behind N q ps ++ post)) in
       let d : length ((pre ++ gap p q) ++ spelling N q) ≡ k + length (spelling N q) = length-append (pre ++ gap p q) (spelling N q) ∙ ap (λ i. i + length (spelling N q)) b in
       spell_one k q (ps ++ qs) (pre ++ gap p q) (behind N q ps ++ post) (read_all (items_behind N (k + length (spelling N q)) q ps) ks) rest a b
-        (spell_behind (k + length (spelling N q)) q ps qs ((pre ++ gap p q) ++ spelling N q) post ks rest c d s)
+      (spell_behind (k + length (spelling N q)) q ps qs ((pre ++ gap p q) ++ spelling N q) post ks rest c d s)
 
   spell_line : (n : ℕ) (ps qs : List Piece) (pre post : List ℕ) (ks rest : List Token) → l.text ≡ pre ++ (joined N ps ++ post) → length pre ≡ n → Spell N qs ks rest → Spell N (ps ++ qs) (read_all (items_of N n ps) ks) rest
   spell_line n [] qs pre post ks rest e f s = s
@@ -83,7 +83,7 @@ module _ (N : Names) (l : TokenList) (names : List (List ℕ)) where
       let c : l.text ≡ (pre ++ spelling N p) ++ (behind N p ps ++ post) = a ∙ sym (append_assoc pre (spelling N p) (behind N p ps ++ post)) in
       let d : length (pre ++ spelling N p) ≡ n + length (spelling N p) = length-append pre (spelling N p) ∙ ap (λ i. i + length (spelling N p)) f in
       spell_one n p (ps ++ qs) pre (behind N p ps ++ post) (read_all (items_behind N (n + length (spelling N p)) p ps) ks) rest a f
-        (spell_behind (n + length (spelling N p)) p ps qs (pre ++ spelling N p) post ks rest c d s)
+      (spell_behind (n + length (spelling N p)) p ps qs (pre ++ spelling N p) post ks rest c d s)
 
   pub spell_lines : (n : ℕ) (ls : List (List Piece)) (pre : List ℕ) (ks : List Token) → l.text ≡ pre ++ line_text N ls → length pre ≡ n → Spell N (flat ls) (read_all (line_items N n ls) ks) ks
   spell_lines n [] pre ks e f = Spell.none
@@ -92,7 +92,7 @@ module _ (N : Names) (l : TokenList) (names : List (List ℕ)) where
       let a : l.text ≡ (pre ++ (joined N p ++ 10 ∷ [])) ++ line_text N ls = e ∙ simp append_assoc in
       let b : length (pre ++ (joined N p ++ 10 ∷ [])) ≡ k = length-append pre (joined N p ++ 10 ∷ []) ∙ omega (arith, f, length-append (joined N p) (10 ∷ [])) in
       subst (λ z. Spell N (p ++ flat ls) z ks) (sym (all_append (items_of N n p) (line_items N k ls) ks))
-        (spell_line n p (flat ls) pre (10 ∷ line_text N ls) (read_all (line_items N k ls) ks) ks e f (spell_lines k ls (pre ++ (joined N p ++ 10 ∷ [])) ks a b))
+      (spell_line n p (flat ls) pre (10 ∷ line_text N ls) (read_all (line_items N k ls) ks) ks e f (spell_lines k ls (pre ++ (joined N p ++ 10 ∷ [])) ks a b))
 
 -- the printed tokens are the tokens of the printed program, before its end
 pub spelled : (ds : List Declaration) → Spell (names_of ds) (flat (head_line ∷ lines 1 0 ds)) (tokens_of (printed_tokens ds)) (end_of (printed_tokens ds) ∷ [])

@@ -1,18 +1,18 @@
 -- Keywords, marks, numbers and names `_k` are spelled as the tokens that they are.
-use Rattle.std.proofs.Common.{◌≡◌, refl, sym, ap, ◌∙◌, subst, arith, le-leb, leb-true, ltb-true, ne_eqb, ℕ, zero, suc, ◌+◌, ◌^◌, ◌<◌, ◌≤◌, Bool, true, false, ◌&&◌, ◌||◌, List, [], ◌∷◌, length, Option, Some, None}
-use Rattle.std.specs.Prelude.{◌==◌, if◌then◌else◌, codes, ℤ, pos, negsuc, nat_le, IsTrue}
-use Rattle.std.specs.Char.{is_ascii_alphabetic, is_ascii_alphanumeric}
-use Rattle.std.specs.Fmt.{decimal, signed_decimal}
+use Rattle.std.proofs.Common.{◌≡◌, refl, sym, ap, ◌∙◌, arith, le-leb, leb-true, ltb-true, ne_eqb, ℕ, suc, ◌^◌, ◌<◌, ◌≤◌, Bool, true, false, ◌&&◌, ◌||◌, List, [], ◌∷◌, length, Option, Some, None}
+use Rattle.std.specs.Prelude.{◌==◌, if◌then◌else◌, ℤ, pos, negsuc, nat_le, IsTrue}
+use Rattle.std.specs.Char.{is_ascii_alphanumeric}
+use Rattle.std.specs.Fmt.{decimal}
 use Rattle.std.specs.Int.{is_in_range}
 use Rattle.std.specs.List.{list_all}
 use Rattle.std.specs.Option.{option_map}
-use Rattle.std.specs.Str.{IsAscii, all_scalars, encode_utf8_all}
-use Rattle.std.specs.Str.Parse.{AllDigits, IsNumeral}
+use Rattle.std.specs.Str.{IsAscii, all_scalars}
+use Rattle.std.specs.Str.Parse.{AllDigits}
 use Rattle.std.proofs.lemmas.Bool.{lt-leb}
 use Rattle.std.proofs.lemmas.Fmt.{decimal_is_IsNumeral, IsAscii-from_digits}
 use Rattle.std.proofs.lemmas.Str.{chars-IsAscii, encodes-IsAscii, scalars-chars, IsUtf8-from_ascii}
 use Rattle.std.proofs.lemmas.Str.Parse.{digit_from_value}
-use Rattle.unicode_ident.specs.Ident.{is_xid_start, is_xid_continue}
+use Rattle.unicode_ident.specs.Ident.{is_xid_continue}
 use Rattle.unicode_ident.proofs.Computing.{unicode_ident}
 use Rattle.unicode_ident.proofs.IdentLemmas.{is_xid_start-ascii, is_xid_continue-ascii}
 use Rattle.cf_lex.specs.Lexed.{AreChars}
@@ -31,7 +31,7 @@ use Rattle.cf_core_text.specs.Text.{mark_text}
 use Rattle.cf_core_text.specs.declared.pieces.Piece.TheVariants as piece
 use Rattle.cf_printed.proofs.Lines.{chars_append}
 use Rattle.cf_printed.proofs.Neighbours.{IsToken}
-use Rattle.cf_printed.proofs.Truth.{all_map, both, left, or_left, or_right, right}
+use Rattle.cf_printed.proofs.Truth.{all_map, both, left, or_left, right}
 
 pub word_token : (N : Names) (w : Keyword) → IsToken N (piece.Word w)
 unfolding unicode_ident lib.Utf8.encode
@@ -160,13 +160,13 @@ digits_spelled c ds e f =
     let w : Option Piece = where_all is_digit (read.Token lexeme.Whole) ds in
     let o : Option Piece = if is_blank c then at_end (Some read.Blank) ds else other_spelled c ds in
     ap (λ b. if b then where_all is_xid_continue (read.Token (word_of (c ∷ ds))) ds else (if is_digit c then w else o)) (digit_begins_none c e)
-      ∙ ap (λ b. if b then w else o) e ∙ spelled_all is_digit (read.Token lexeme.Whole) ds f
+    ∙ ap (λ b. if b then w else o) e ∙ spelled_all is_digit (read.Token lexeme.Whole) ds f
 
 natlit_spelled : (c : ℕ) (ds : List ℕ) → is_digit c ≡ true → list_all is_digit ds ≡ true → spelled (35 ∷ c ∷ ds) ≡ Some (read.Token lexeme.NatLit)
 unfolding unicode_ident
 natlit_spelled c ds e f =
     ap (λ b. if b then where_all is_digit (read.Token lexeme.NatLit) ds else at_end (option_map mark_piece (long_mark 35 c)) ds) e
-      ∙ spelled_all is_digit (read.Token lexeme.NatLit) ds f
+    ∙ spelled_all is_digit (read.Token lexeme.NatLit) ds f
 
 minus_spelled : (c : ℕ) (ds : List ℕ) → is_digit c ≡ true → list_all is_digit ds ≡ true → spelled (45 ∷ c ∷ ds) ≡ Some (read.Token lexeme.Whole)
 unfolding unicode_ident
@@ -175,7 +175,7 @@ minus_spelled c ds e f =
     let w : Option Piece = where_all is_digit (read.Token lexeme.Whole) ds in
     let o : Option Piece = at_end (option_map mark_piece (long_mark 45 c)) ds in
     ap (λ b. if b then where_all stays_on_line read.Comment ds else (if is_digit c then w else o)) (ne_eqb c 45 (λ m. omega arith))
-      ∙ ap (λ b. if b then w else o) e ∙ spelled_all is_digit (read.Token lexeme.Whole) ds f
+    ∙ ap (λ b. if b then w else o) e ∙ spelled_all is_digit (read.Token lexeme.Whole) ds f
 
 behind_mark : (m : ℕ) (ds : List ℕ) → AreChars (m ∷ []) (m ∷ []) → AreChars ds ds → AreChars (m ∷ ds) (m ∷ ds)
 behind_mark m ds h k = chars_append (m ∷ []) ds (m ∷ []) ds h k

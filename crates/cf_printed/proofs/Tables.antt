@@ -1,7 +1,6 @@
 -- The names of a program by their numbers: those declared so far stand in the tables of the whole program.
-use Rattle.std.proofs.Common.{◌≡◌, refl, sym, ap, ◌∙◌, subst, arith, inl, inr, append_assoc, length-append, ℕ, zero, suc, ◌+◌, ◌-◌, ◌<◌, ◌≤◌, List, [], ◌∷◌, ◌++◌, length, Option, Some, None}
+use Rattle.std.proofs.Common.{◌≡◌, refl, sym, ap, ◌∙◌, subst, arith, inl, inr, append_assoc, length-append, ℕ, zero, suc, ◌+◌, ◌-◌, ◌<◌, List, [], ◌∷◌, ◌++◌, length, Some, None}
 use Rattle.std.specs.Prelude.{◌⊎◌, slice_get, codes}
-use Rattle.std.proofs.lemmas.Option.{slice_get_within}
 use Rattle.unicode_ident.proofs.Computing.{unicode_ident}
 use Rattle.cf_lex.specs.Lexed.{AreChars}
 use Rattle.cf_lex.specs.Tokens.{spelled}
@@ -11,9 +10,7 @@ use Rattle.cf_rules.specs.Programs.{Constructor, Data, Declaration, DataC, MetaC
 use Rattle.cf_elab.specs.Scope.{Globals, settled, start, with_own, with_type, with_variable}
 use Rattle.cf_elab.specs.declared.numbers.CtorNumber.{CtorNumber}
 use Rattle.cf_core_text.specs.Names.{Names, ctor_in, ctor_name, data_types, flag, global_name, global_names, names_of, type_name}
-use Rattle.cf_core_text.specs.declared.pieces.Piece.TheVariants as piece
-use Rattle.cf_printed.specs.Scoped.{AllScoped, CtorsScoped, DeclScoped, IsCtor, IsName, below, below_ctors, next_ctor}
-use Rattle.cf_printed.proofs.Neighbours.{IsToken}
+use Rattle.cf_printed.specs.Scoped.{CtorsScoped, DeclScoped, IsName, below, below_ctors, next_ctor}
 use Rattle.cf_printed.proofs.Printable.{Tells}
 
 -- elements of a list by their numbers
@@ -58,8 +55,10 @@ adds g t p (c ∷ cs) =
     let r = adds (with_own c.name (next_ctor g t p) g) t p cs in
     let n : length (g.own ++ e ∷ []) ≡ suc (length g.own) = length-append g.own (e ∷ []) ∙ omega arith in
     record {
-      variables = r.variables; types = r.types; ctors = r.ctors;
-      own = r.own ∙ ap (λ k. (g.own ++ e ∷ []) ++ numbered t p k cs) n ∙ append_assoc g.own (e ∷ []) (numbered t p (suc (length g.own)) cs)
+      variables = r.variables;
+      types = r.types;
+      ctors = r.ctors;
+      own = r.own ∙ ap (λ k. (g.own ++ e ∷ []) ++ numbered t p k cs) n ∙ append_assoc g.own (e ∷ []) (numbered t p (suc (length g.own)) cs);
     }
 
 pub numbered_at : (t p j : ℕ) (cs : List Constructor) (i : ℕ) (x : List ℕ) (k : CtorNumber) → slice_get (numbered t p j cs) i ≡ Some (x, k) → (c : Constructor) × (slice_get cs i ≡ Some c) × (c.name ≡ x) × (k.data_type ≡ t) × (k.ctor ≡ j + i) × (k.params ≡ p)
@@ -103,12 +102,16 @@ with_global : (N : Names) (g : Globals) (ds es : List Declaration) (x : List ℕ
 with_global N g ds es x e f m a =
     let glob : N.globals ≡ a.outer ++ x ∷ global_names ds = a.globals ∙ ap (λ l. a.outer ++ l) e in
     record {
-      front = a.front; types = a.types ∙ ap (λ l. a.front ++ l) f; types_count = a.types_count;
+      front = a.front;
+      types = a.types ∙ ap (λ l. a.front ++ l) f;
+      types_count = a.types_count;
       outer = a.outer ++ x ∷ [];
       globals = glob ∙ sym (append_assoc a.outer (x ∷ []) (global_names ds));
       globals_count = length-append a.outer (x ∷ []) ∙ omega (arith, a.globals_count);
-      none_own = a.none_own; type_at = a.type_at; ctor_at = a.ctor_at;
-      global_at = at glob
+      none_own = a.none_own;
+      type_at = a.type_at;
+      ctor_at = a.ctor_at;
+      global_at = at glob;
     }
   where
     at : N.globals ≡ a.outer ++ x ∷ global_names ds → (n : ℕ) (y : List ℕ) → slice_get (x ∷ g.variables) n ≡ Some y → (global_name N (length (x ∷ g.variables) - suc n) ≡ y) × IsName y
@@ -131,11 +134,13 @@ with_data N g d ds s a =
       front = a.front ++ d ∷ [];
       types = a.types ∙ sym (append_assoc a.front (d ∷ []) (data_types ds));
       types_count = length-append a.front (d ∷ []) ∙ omega (arith, a.types_count, length-append g.types (d.name ∷ [])) ∙ ap length (sym r.types);
-      outer = a.outer; globals = a.globals; globals_count = a.globals_count ∙ ap length (sym r.variables);
+      outer = a.outer;
+      globals = a.globals;
+      globals_count = a.globals_count ∙ ap length (sym r.variables);
       none_own = refl;
       type_at = λ n x h. type_there n x (subst (λ l. slice_get l n ≡ Some x) r.types h);
       global_at = λ n x h. let q = a.global_at n x (subst (λ l. slice_get l n ≡ Some x) r.variables h) in (ap (λ l. global_name N (length l - suc n)) r.variables ∙ q.0, q.1);
-      ctor_at = λ i x k h. ctor_there i x k (subst (λ l. slice_get l i ≡ Some (x, k)) (both r.ctors (r.own ∙ ap (λ o. o ++ numbered (length g.types) d.params (length o) d.ctors) a.none_own)) h)
+      ctor_at = λ i x k h. ctor_there i x k (subst (λ l. slice_get l i ≡ Some (x, k)) (both r.ctors (r.own ∙ ap (λ o. o ++ numbered (length g.types) d.params (length o) d.ctors) a.none_own)) h);
     }
   where
     at : slice_get N.types (length g.types) ≡ Some d
@@ -146,23 +151,24 @@ with_data N g d ds s a =
 
     type_there : (n : ℕ) (x : List ℕ) → slice_get (g.types ++ d.name ∷ []) n ≡ Some x → (type_name N n ≡ x) × IsName x
     type_there n x h = elim (get_either g.types (d.name ∷ []) n x h) [
-        inl e ↦ a.type_at n x e
+      | inl e ↦ a.type_at n x e
       | inr e ↦
           let f = get_first d.name e.0 x e.2 in
           let k : n ≡ length g.types = omega (arith, e.1, f.0) in
           (ap (λ o. elim o [ Some t ↦ t.name | None ↦ [] ]) (ap (slice_get N.types) k ∙ at) ∙ f.1, subst IsName f.1 s.0.0)
-      ]
+    ]
 
     ctor_there : (i : ℕ) (x : List ℕ) (k : CtorNumber) → slice_get (g.ctors ++ numbered (length g.types) d.params 0 d.ctors) i ≡ Some (x, k) → (ctor_name N k.data_type k.ctor ≡ x) × IsName x
     ctor_there i x k h = elim (get_either g.ctors (numbered (length g.types) d.params 0 d.ctors) i (x, k) h) [
-        inl e ↦ a.ctor_at i x k e
+      | inl e ↦ a.ctor_at i x k e
       | inr e ↦
           let c = numbered_at (length g.types) d.params 0 d.ctors e.0 x k e.2 in
-          let n : k.ctor ≡ e.0 = c.4 ∙ omega arith in
-          (ap (λ o. elim o [ Some t ↦ ctor_in t k.ctor | None ↦ [] ]) (ap (slice_get N.types) c.3 ∙ at)
-             ∙ ap (λ o. elim o [ Some j ↦ j.name | None ↦ [] ]) (ap (slice_get d.ctors) n ∙ c.1) ∙ c.2,
-           subst IsName c.2 (ctor_names (with_type d.name g) (length g.types) d.params d.ctors s.2 e.0 c.0 c.1))
-      ]
+          let n : k.ctor ≡ e.0 = c.4 ∙ omega arith in (
+            ap (λ o. elim o [ Some t ↦ ctor_in t k.ctor | None ↦ [] ]) (ap (slice_get N.types) c.3 ∙ at)
+                ∙ ap (λ o. elim o [ Some j ↦ j.name | None ↦ [] ]) (ap (slice_get d.ctors) n ∙ c.1) ∙ c.2,
+            subst IsName c.2 (ctor_names (with_type d.name g) (length g.types) d.params d.ctors s.2 e.0 c.0 c.1),
+          )
+    ]
 
 pub agrees_below : (N : Names) (g : Globals) (d : Declaration) (ds : List Declaration) → DeclScoped g d → Agrees N g (d ∷ ds) → Agrees N (below g d) ds
 agrees_below N g (DataC d) ds s a = with_data N g d ds s a
@@ -184,12 +190,17 @@ yes_name = (codes "yes", (refl, refl), refl, refl)
 
 pub agrees_start : (ds : List Declaration) → Agrees (names_of ds) start ds
 agrees_start ds = record {
-    front = flag ∷ []; types = refl; types_count = refl;
-    outer = []; globals = refl; globals_count = refl; none_own = refl;
-    type_at = type_there;
-    global_at = λ n x h. absurd (cc);
-    ctor_at = ctor_there
-  }
+  front = flag ∷ [];
+  types = refl;
+  types_count = refl;
+  outer = [];
+  globals = refl;
+  globals_count = refl;
+  none_own = refl;
+  type_at = type_there;
+  global_at = λ n x h. absurd (cc);
+  ctor_at = ctor_there;
+}
   where
     type_there : (n : ℕ) (x : List ℕ) → slice_get (codes "Flag" ∷ []) n ≡ Some x → (type_name (names_of ds) n ≡ x) × IsName x
     type_there zero x h = let e : codes "Flag" ≡ x = cc in (e, subst IsName e flag_name)
@@ -216,14 +227,14 @@ named x y e m = subst (λ z. (cs : List ℕ) × AreChars z cs × (spelled cs ≡
 
 pub tells : (N : Names) (g : Globals) (ds : List Declaration) → Agrees N g ds → Tells N g
 tells N g ds a = record {
-    globals = λ k h.
+  globals = λ k h.
       let n : ℕ = length g.variables - suc k in
       let r = get_some g.variables n (omega arith) in
       let q = a.global_at n r.0 r.1 in
       let e : length g.variables - suc n ≡ k = omega arith in
       named r.0 (global_name N k) (ap (global_name N) (sym e) ∙ q.0) q.1;
-    types = λ n h. let r = get_some g.types n h in let q = a.type_at n r.0 r.1 in named r.0 (type_name N n) q.0 q.1;
-    ctors = λ n c k.
+  types = λ n h. let r = get_some g.types n h in let q = a.type_at n r.0 r.1 in named r.0 (type_name N n) q.0 q.1;
+  ctors = λ n c k.
       let q = a.ctor_at k.0 k.1 k.2 k.3 in
-      named k.1 (ctor_name N n c) ((λ i. ctor_name N (sym k.4 i) (sym k.5 i)) ∙ q.0) q.1
-  }
+      named k.1 (ctor_name N n c) ((λ i. ctor_name N (sym k.4 i) (sym k.5 i)) ∙ q.0) q.1;
+}

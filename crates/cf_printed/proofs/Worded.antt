@@ -1,5 +1,5 @@
 -- The forms that are written as a word and atoms.
-use Rattle.std.proofs.Common.{◌≡◌, true, false, refl, sym, ap, ◌∙◌, subst, ℕ, suc, List, [], ◌∷◌, ◌++◌, Option, Some, replicate}
+use Rattle.std.proofs.Common.{◌≡◌, true, false, ap, ◌∙◌, ℕ, List, [], ◌∷◌, ◌++◌, Some}
 use Rattle.std.specs.Prelude.{slice_get}
 use Rattle.cf_lex.specs.Spelling.{keyword_text}
 use Rattle.cf_lex.specs.declared.keywords.Keyword.{Keyword}

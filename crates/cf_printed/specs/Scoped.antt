@@ -1,13 +1,13 @@
 -- Programs of the core in which every name is a new one and every number stands for something declared above.
-use Rattle.std.specs.Prelude.{ℕ, zero, suc, ◌+◌, ◌<◌, ◌^◌, ◌≡◌, Bool, true, false, List, [], ◌∷◌, length, IsTrue, Option, Some, None, slice_get}
+use Rattle.std.specs.Prelude.{ℕ, zero, suc, ◌+◌, ◌<◌, ◌^◌, ◌≡◌, true, false, List, [], ◌∷◌, length, IsTrue, Option, Some, None, slice_get}
 use Rattle.cf_lex.specs.Lexed.{AreChars}
 use Rattle.cf_lex.specs.Tokens.{spelled}
 use Rattle.cf_lex.specs.declared.piece.Lexeme.TheVariants as lexeme
 use Rattle.cf_lex.specs.declared.piece.Piece.TheVariants as read
 use Rattle.cf_parse.specs.Reads.{fits_word}
 use Rattle.cf_parse.specs.Tokens.{begins_plain}
-use Rattle.cf_term.specs.Core.{Tm, var, node, Tms, nil, cons, Part, parts, first_part, rest_parts, Branch, Head, MetaTyH, ValTyH, CompTyH, TyH, PiH, LamH, AppH, LetH, SigH, PairH, FstH, SndH, UnitTyH, UnitH, UnitRecH, BoolTyH, TrueH, FalseH, BoolRecH, NatTyH, ZeroH, SucH, NatRecH, ListTyH, NilH, ConsH, ListRecH, LiftH, QuoteH, VH, CH, IntTyH, DataH, ArrH, LitH, PrimH, LetVH, LetRecH, OLamH, OAppH, ConH, CaseH, FailH, SpliceH, HoleH, MarkH}
-use Rattle.cf_rules.specs.Programs.{Constructor, Data, Declaration, DataC, MetaC, ObjectC}
+use Rattle.cf_term.specs.Core.{Tm, var, node, Tms, nil, cons, Part, parts, first_part, rest_parts, Branch, Head, PiH, LamH, AppH, LetH, SigH, PairH, FstH, SndH, UnitRecH, BoolRecH, SucH, NatRecH, ListTyH, NilH, ConsH, ListRecH, LiftH, QuoteH, VH, CH, DataH, ArrH, LitH, PrimH, LetVH, LetRecH, OLamH, OAppH, ConH, CaseH, FailH, SpliceH, HoleH, MarkH}
+use Rattle.cf_rules.specs.Programs.{Constructor, Declaration, DataC, MetaC, ObjectC}
 use Rattle.cf_elab.specs.Scope.{Globals, is_taken, with_variable, with_type, with_own, settled}
 use Rattle.cf_elab.specs.declared.numbers.CtorNumber.{CtorNumber}
 use Rattle.cf_core_text.specs.Pieces.{printed, under}
