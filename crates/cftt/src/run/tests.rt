@@ -1,3 +1,5 @@
+mod sources;
+
 use super::*;
 use cf_base::{At, MemSink, MemSource};
 use std::test::Fail;
