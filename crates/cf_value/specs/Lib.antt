@@ -1,0 +1,9 @@
+pub mod Heads
+pub mod Val
+pub mod Stored
+pub mod Seen
+pub mod Heights
+pub mod Found
+pub mod Stands
+pub mod Contexts
+pub mod Laws
