@@ -1,10 +1,9 @@
 -- The parts that have been shared, and the parts that are left.
 use Rattle.std.proofs.Common.{◌≡◌, ℕ, zero, suc, ◌+◌, ◌≤◌, ◌<◌, List, [], ◌∷◌, ◌++◌, get_or, drop, length, refl, ap, sym, ◌∙◌, arith, add-one}
 use Rattle.std.proofs.Math.Seq.{drop-cons}
-use Rattle.cf_value.specs.Val.{VParts, none, ready, frozen}
+use Rattle.cf_value.specs.Val.{VParts, none}
 use Rattle.cf_value.specs.Seen.{seen_part, seen_parts}
 use Rattle.cf_value.specs.declared.values.ValuePart.{ValuePart}
-use Rattle.cf_value.specs.declared.values.ValuePart.TheVariants as part
 
 -- these parts before others
 abbrev pub seen_before : List ValuePart → VParts → VParts

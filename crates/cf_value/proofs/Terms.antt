@@ -2,16 +2,16 @@
 use Rattle.std.specs.Prelude.{ℕ, zero, suc, ◌+◌, ◌<◌, ◌≤◌, Bool, true, false, nat_eq, List, ◌≡◌, refl}
 use Rattle.std.proofs.Common.{arith}
 use Rattle.std.proofs.lemmas.Bool.Decides.{nat_tests}
-use mathlib.Core.Path.{ap, ap₂, sym, ◌∙◌, fun_ext, subst}
-use Rattle.cf_term.specs.Core.{Tm, var, node, Tms, nil, cons, Part, parts, first_part, rest_parts}
+use mathlib.Core.Path.{ap, ap₂, sym, ◌∙◌, fun_ext}
+use Rattle.cf_term.specs.Core.{Tm, var, node, cons, Part, parts, first_part, rest_parts}
 use Rattle.cf_term.specs.Same.{bare}
-use Rattle.cf_term.specs.Evaluation.{Done, evaluate, IsValue}
+use Rattle.cf_term.specs.Evaluation.{Done, evaluate}
 use Rattle.cf_term.specs.Laws.{RenamingsCompose, RenamingOfSubstituted, SubstitutionsCompose, SubstitutionOfRenamed, SubstitutionOfVariables}
-use Rattle.cf_term.specs.Substitution.{lift, lifts, rename, rename_all, up, ups, substitute, instance, single}
+use Rattle.cf_term.specs.Substitution.{lift, lifts, rename, rename_all, up, ups, substitute, single}
 use Rattle.cf_value.specs.Val.{Val, VParts, Vals, level, form, none, ready, frozen, empty, push}
 use Rattle.cf_value.specs.Stands.{term_at, terms_at, env_at, with_level, with_levels, and_first}
-use Rattle.cf_value.specs.Contexts.{IsKnown, AreKnown, AreKnownParts, AreValuesIn, below, or_level, or_levels, with_variables}
-use Rattle.cf_value.specs.Laws.{RenamingOfValue, ValueOfContext, EnvironmentUnderBinders, ArgumentPutIn}
+use Rattle.cf_value.specs.Contexts.{IsKnown, AreKnown, AreKnownParts, below, or_levels, with_variables}
+use Rattle.cf_value.specs.Laws.{RenamingOfValue, ValueOfContext, EnvironmentUnderBinders, ArgumentPutIn, VariablesAreValues, ValueUnderBinders, ValueOutOfBinders, ReadingsAgree}
 
 -- ---- renaming
 
@@ -171,3 +171,35 @@ variable_stays i (suc k) d = refl
 pub stands_for_value : ValueOfContext
 stands_for_value d (level n) h at = variable_stays (at n)
 stands_for_value d (form c l ps) h at = h.0 at
+
+-- ---- contexts
+
+pub variables : VariablesAreValues
+variables n d e h = known_variables n d e h
+
+or_choice : (b : Bool) (x y : Type 0) → (b ≡ false → x → y) → x → elim b as (λ _. Type 0) [ | true ↦ Unit {0} | false ↦ y ]
+or_choice true x y f h = tt
+or_choice false x y f h = f refl h
+
+below_levels : (k d n : ℕ) → n < d + k → or_levels k d (below d) n
+below_levels zero d n h = omega (arith, h)
+below_levels (suc k) d n h =
+    or_choice (nat_eq n (d + k)) (n < d + suc k) (or_levels k d (below d) n) (λ e g. below_levels k d n (let x : nat_eq n (d + k) ≡ false = e in grind (arith, nat_tests, x, g))) h
+
+pub under : ValueUnderBinders
+under k d v h = more v (below (d + k)) (or_levels k d (below d)) (λ n g. below_levels k d n g) h
+
+from_choice : (b : Bool) (x y : Type 0) → (b ≡ true → y) → (x → y) → elim b as (λ _. Type 0) [ | true ↦ Unit {0} | false ↦ x ] → y
+from_choice true x y f g h = f refl
+from_choice false x y f g h = g h
+
+levels_below : (k l d m n : ℕ) → l + k ≤ m → d ≤ m → or_levels k l (below d) n → n < m
+levels_below zero l d m n h g q = omega (arith, g, q)
+levels_below (suc k) l d m n h g q =
+    from_choice (nat_eq n (l + k)) (or_levels k l (below d) n) (n < m) (λ e. let x : nat_eq n (l + k) ≡ true = e in grind (arith, nat_tests, x, h)) (λ r. levels_below k l d m n (omega (arith, h)) g r) q
+
+pub out : ValueOutOfBinders
+out k l d m v h g q = more v (or_levels k l (below d)) (below m) (λ n r. levels_below k l d m n h g r) q
+
+pub readings : ReadingsAgree
+readings d v at to h a = agree v (below d) at to h a

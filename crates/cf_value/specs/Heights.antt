@@ -3,7 +3,7 @@ use Rattle.std.specs.Prelude.{List, [], ◌∷◌, ◌≤◌, ◌+◌, max}
 use Rattle.std.proofs.Common.{arith}
 use denote.Param.Weighed.{most}
 use Rattle.cf_value.specs.Val.{height, heights, part_heights}
-use Rattle.cf_value.specs.Seen.{seen_value, seen_env, seen_part, seen_parts}
+use Rattle.cf_value.specs.Seen.{seen_value, seen_env, seen_parts}
 use Rattle.cf_value.specs.declared.values.ValueNode.{ValueNode}
 use Rattle.cf_value.specs.declared.values.ValueNode.TheVariants as node
 use Rattle.cf_value.specs.declared.values.ValuePart.{ValuePart}

@@ -1,5 +1,5 @@
 -- Values as they are stored, so that equal ones are stored alike and others are told apart.
-use Rattle.std.specs.Prelude.{ℕ, ◌≡◌, refl}
+use Rattle.std.specs.Prelude.{◌≡◌, refl}
 use Rattle.std.specs.Coded.{Coded}
 use base.Stored.{Gv, gnil, gnum, gcons}
 use native.Mathlib.Nat.{suc-ne-zero}

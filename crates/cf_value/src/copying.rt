@@ -52,11 +52,19 @@ impl ValuePart {
     {
         match self {
             ValuePart::Ready(v) => Ok(ValuePart::Ready(shared(v)?)),
-            ValuePart::Kept(Frozen { env, body }) => {
-                let env = env.share()?;
-                let body = shared(body)?;
-                Ok(ValuePart::Kept(Frozen { env, body }))
-            }
+            ValuePart::Kept(f) => Ok(ValuePart::Kept(f.share()?)),
         }
+    }
+}
+
+impl Frozen {
+    /// The same frozen term once more, shared.
+    pub fn share(&self) -> Result<Frozen, NoMemory>
+        ensures env { IfOk result (λ f. f.env ≡ self.now.env) }
+        ensures body { IfOk result (λ f. f.body.value ≡ self.now.body.value) }
+    {
+        let env = self.env.share()?;
+        let body = shared(&self.body)?;
+        Ok(Frozen { env, body })
     }
 }

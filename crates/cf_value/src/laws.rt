@@ -1,6 +1,6 @@
 //! Laws of what values stand for, each proved as the contract of a function that does nothing.
 
-ghost use Rattle.cf_value.specs.Laws.{ArgumentPutIn, EnvironmentUnderBinders, RenamingOfValue, ValueOfContext};
+ghost use Rattle.cf_value.specs.Laws.{ArgumentPutIn, EnvironmentUnderBinders, ReadingsAgree, RenamingOfValue, ValueOfContext, ValueOutOfBinders, ValueUnderBinders, VariablesAreValues};
 
 use cf_term::{
     renaming_of_substituted, renamings_compose, substitution_of_renamed, substitution_of_variables,
@@ -35,3 +35,23 @@ pub fn argument_put_in()
     substitution_of_renamed();
     substitution_of_variables();
 }
+
+/// The levels of object binders are values of the context that has their variables.
+pub fn variables_are_values()
+    ensures { VariablesAreValues }
+{}
+
+/// A value of the context that has the variables of object binders is known under these binders.
+pub fn value_under_binders()
+    ensures { ValueUnderBinders }
+{}
+
+/// A value that is known under object binders is a value of each context that has their levels.
+pub fn value_out_of_binders()
+    ensures { ValueOutOfBinders }
+{}
+
+/// What a value stands for depends on the variables of the levels of its context alone.
+pub fn readings_agree()
+    ensures { ReadingsAgree }
+{}

@@ -1,4 +1,4 @@
-use Rattle.std.proofs.Common.{arith, ap, ◌∙◌}
+use Rattle.std.proofs.Common.{arith, ap}
 use Rattle.cf_term.specs.Core.{nil, cons}
 use Rattle.cf_term.specs.View.{listed, tm_of}
 use Rattle.cf_term.specs.Numbered.{count}

@@ -1,5 +1,4 @@
-use Rattle.std.proofs.Common.{arith, ap}
-use Rattle.cf_value.specs.Heads.{Fits, head_of}
+use Rattle.std.proofs.Common.{arith}
 use Rattle.cf_value.proofs.Built.{branches_count}
 use Rattle.cf_value.proofs.shapes.Shape.with_parts.Goals as goal
 
