@@ -1,0 +1,13 @@
+pub mod Unfolding
+pub mod Reached
+pub mod Renamed
+pub mod Settled
+pub mod Numbered
+pub mod Contracted
+pub mod Formed
+pub mod Walked
+pub mod Marked
+pub mod Applied
+pub mod Binding
+pub mod Ranks
+pub mod Looked

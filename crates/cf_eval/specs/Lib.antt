@@ -1,0 +1,5 @@
+pub mod Laws
+pub mod Answers
+pub mod Redexes
+pub mod Goals
+pub mod Bulk

@@ -1,0 +1,37 @@
+// The calls: an evaluation, and an evaluation that is read back.
+ghost use Rattle.std.specs.Prelude.{IfOk};
+ghost use Rattle.cf_term.specs.Evaluation.{Done, evaluate};
+ghost use Rattle.cf_term.specs.Same.{bare};
+ghost use Rattle.cf_term.specs.Substitution.{substitute};
+ghost use Rattle.cf_value.specs.Contexts.{AreValuesIn, IsClosed, IsValueIn};
+ghost use Rattle.cf_value.specs.Stands.{env_at, in_context, term_at};
+ghost use Rattle.cf_value.specs.Val.{values_in};
+ghost use Rattle.cf_eval.specs.Answers.{Answers};
+
+use crate::answers::{Budget, EvalEnd, Evaluated};
+use crate::evaluating::value_of;
+use cf_term::Term;
+use cf_value::Env;
+use std::alloc::Global;
+
+/// The value of the term, with the values of its variables, in a context of `depth` variables. `Spent` where a step
+/// was to be taken and none was left, `Deep` where one was left and the nest was used up.
+pub fn evaluate(
+    alloc: Global,
+    env: &Env,
+    t: &Term,
+    depth: u32,
+    budget: Budget,
+) -> Result<Evaluated, EvalEnd>
+    requires closed { IsClosed (values_in env.now) t.now }
+    requires values { AreValuesIn depth env.now }
+    ensures equal { Answers result (λ e. Done (term_at (in_context depth) e.value) e.left) (evaluate budget.steps budget.nest (substitute (env_at (in_context depth) env.now) (bare t.now))) }
+    ensures value { IfOk result (λ e. IsValueIn depth e.value) }
+{
+    let reached = value_of(alloc, env, t, depth, budget.steps, budget.nest)?;
+    let value = reached.value.copy(alloc)?;
+    Ok(Evaluated {
+        value,
+        left: reached.left,
+    })
+}

@@ -1,0 +1,16 @@
+//! Evaluation of terms with shared environments, and reading values back.
+#![tactic(auto)]
+
+mod answers;
+mod calling;
+mod evaluating;
+mod laws;
+mod memory;
+mod stepping;
+
+pub use answers::{Budget, EvalEnd, Evaluated, Written};
+pub use calling::evaluate;
+pub use laws::{
+    answers_are_reached, answers_are_values, evaluation_goes_on, evaluation_of_renamed,
+    steps_are_spent,
+};
