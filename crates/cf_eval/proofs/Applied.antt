@@ -56,15 +56,15 @@ module _ (goes : EvaluationGoesOn) where
   pub first_refused : {X Y : Type 0} (x : EvalEnd) (f : X → Out) (g : Y → Out) (k d : ℕ) (t u : Tm) → Answers {X = X} (Err x) f (evaluate k d t) → Answers {X = Y} (Err x) g (evaluate k d (App false t u))
   first_refused x f g k d t u a =
       refused x f g (evaluate k d t) (evaluate k d (App false t u))
-        (λ e. app_goes k d t u ∙ ap (λ o. finish evaluate d (AppH false) (and_then o (λ l. and_then (evaluate l d u) (λ j. AllDone nil j)))) e)
-        (λ e. app_goes k d t u ∙ ap (λ o. finish evaluate d (AppH false) (and_then o (λ l. and_then (evaluate l d u) (λ j. AllDone nil j)))) e) a
+      (λ e. app_goes k d t u ∙ ap (λ o. finish evaluate d (AppH false) (and_then o (λ l. and_then (evaluate l d u) (λ j. AllDone nil j)))) e)
+      (λ e. app_goes k d t u ∙ ap (λ o. finish evaluate d (AppH false) (and_then o (λ l. and_then (evaluate l d u) (λ j. AllDone nil j)))) e) a
 
   pub second_refused : {X Y : Type 0} (x : EvalEnd) (f : X → Out) (g : Y → Out) (k d : ℕ) (t u v : Tm) (j : ℕ) → evaluate k d t ≡ Done v j → Answers {X = X} (Err x) f (evaluate j d u) → Answers {X = Y} (Err x) g (evaluate k d (App false t u))
   second_refused x f g k d t u v j h a =
       let both = app_goes k d t u ∙ ap (λ o. finish evaluate d (AppH false) (and_then o (λ l. and_then (evaluate l d u) (λ j. AllDone nil j)))) h in
       refused x f g (evaluate j d u) (evaluate k d (App false t u))
-        (λ e. both ∙ ap (λ o. finish evaluate d (AppH false) (before v (and_then o (λ j. AllDone nil j)))) e)
-        (λ e. both ∙ ap (λ o. finish evaluate d (AppH false) (before v (and_then o (λ j. AllDone nil j)))) e) a
+      (λ e. both ∙ ap (λ o. finish evaluate d (AppH false) (before v (and_then o (λ j. AllDone nil j)))) e)
+      (λ e. both ∙ ap (λ o. finish evaluate d (AppH false) (before v (and_then o (λ j. AllDone nil j)))) e) a
 
   -- a recursor on a value
   pub number_goes : (k d : ℕ) (p z s m : Tm) → IsValue m → evaluate k d (NatRec p z s m) ≡ finish evaluate d NatRecH (AllDone (cons p (cons z (cons s (cons m nil)))) k)

@@ -96,28 +96,28 @@ app_fine : (known : ℕ → Type 0) (i : Bool) (l : ℕ) (f u : Val) → IsKnown
 app_fine known i l (level n) u kf ku = (λ at. refl, tt, tt)
 app_fine known i l (form (LamH j) m ps) u kf ku =
     ready_kept ps (shaped 2 (parts (LamH j)) known m ps kf.1 kf.2) (λ x. AreKnownParts known m (parts (LamH j)) x → Fine known (AppH i) l (ready (form (LamH j) m x) (ready u none)) (opened_with (kept_part x 1) u))
-      (λ a e t k. (λ at. refl, ((k.2.1, k.2.2), ku), omega arith)) kf.2
+    (λ a e t k. (λ at. refl, ((k.2.1, k.2.2), ku), omega arith)) kf.2
 app_fine known i l (form h m ps) u kf ku = (λ at. refl, tt, tt)
 
 first_fine : (known : ℕ → Type 0) (l : ℕ) (v : Val) → IsKnown known v → Fine known FstH l (ready v none) (value_at (first_value v))
 first_fine known l (level n) kv = (λ at. refl, tt, tt)
 first_fine known l (form PairH m ps) kv =
     three_ready ps (shaped 3 (parts PairH) known m ps kv.1 kv.2) (λ x. AreKnownParts known m (parts PairH) x → Fine known FstH l (ready (form PairH m x) none) (value_at (ready_part x 1)))
-      (λ s t u k. (λ at. refl, k.2.1, omega arith)) kv.2
+    (λ s t u k. (λ at. refl, k.2.1, omega arith)) kv.2
 first_fine known l (form h m ps) kv = (λ at. refl, tt, tt)
 
 second_fine : (known : ℕ → Type 0) (l : ℕ) (v : Val) → IsKnown known v → Fine known SndH l (ready v none) (value_at (second_value v))
 second_fine known l (level n) kv = (λ at. refl, tt, tt)
 second_fine known l (form PairH m ps) kv =
     three_ready ps (shaped 3 (parts PairH) known m ps kv.1 kv.2) (λ x. AreKnownParts known m (parts PairH) x → Fine known SndH l (ready (form PairH m x) none) (value_at (ready_part x 2)))
-      (λ s t u k. (λ at. refl, k.2.2.1, omega arith)) kv.2
+    (λ s t u k. (λ at. refl, k.2.2.1, omega arith)) kv.2
 second_fine known l (form h m ps) kv = (λ at. refl, tt, tt)
 
 splice_fine : (known : ℕ → Type 0) (l : ℕ) (v : Val) → IsKnown known v → Fine known SpliceH l (ready v none) (value_at (quoted_value v))
 splice_fine known l (level n) kv = (λ at. refl, tt, tt)
 splice_fine known l (form QuoteH m ps) kv =
     one_ready ps (shaped 1 (parts QuoteH) known m ps kv.1 kv.2) (λ x. AreKnownParts known m (parts QuoteH) x → Fine known SpliceH l (ready (form QuoteH m x) none) (value_at (ready_part x 0)))
-      (λ t k. (λ at. refl, k.1, omega arith)) kv.2
+    (λ t k. (λ at. refl, k.1, omega arith)) kv.2
 splice_fine known l (form h m ps) kv = (λ at. refl, tt, tt)
 
 unit_fine : (known : ℕ → Type 0) (l : ℕ) (d : Vals) (p : Tm) (e : Vals) (t : Tm) (v : Val) → AreKnownParts known l (parts UnitRecH) (frozen d p (frozen e t (ready v none)))
@@ -125,7 +125,7 @@ unit_fine : (known : ℕ → Type 0) (l : ℕ) (d : Vals) (p : Tm) (e : Vals) (t
 unit_fine known l d p e t (level n) k = (λ at. refl, tt, tt)
 unit_fine known l d p e t (form UnitH m ps) k =
     take_none ps (shaped 0 (parts UnitH) known m ps k.3.3.1.1 k.3.3.1.2) (λ x. Fine known UnitRecH l (frozen d p (frozen e t (ready (form UnitH m x) none))) (Some (case_of (record { env = e; body = t }))))
-      (λ at. refl, (k.3.1, k.3.2), omega arith)
+    (λ at. refl, (k.3.1, k.3.2), omega arith)
 unit_fine known l d p e t (form h m ps) k = (λ at. refl, tt, tt)
 
 bool_fine : (known : ℕ → Type 0) (l : ℕ) (d : Vals) (p : Tm) (e : Vals) (t : Tm) (g : Vals) (u : Tm) (v : Val) → AreKnownParts known l (parts BoolRecH) (frozen d p (frozen e t (frozen g u (ready v none))))
@@ -133,10 +133,10 @@ bool_fine : (known : ℕ → Type 0) (l : ℕ) (d : Vals) (p : Tm) (e : Vals) (t
 bool_fine known l d p e t g u (level n) k = (λ at. refl, tt, tt)
 bool_fine known l d p e t g u (form TrueH m ps) k =
     take_none ps (shaped 0 (parts TrueH) known m ps k.3.3.3.1.1 k.3.3.3.1.2) (λ x. Fine known BoolRecH l (frozen d p (frozen e t (frozen g u (ready (form TrueH m x) none)))) (Some (case_of (record { env = e; body = t }))))
-      (λ at. refl, (k.3.1, k.3.2), omega arith)
+    (λ at. refl, (k.3.1, k.3.2), omega arith)
 bool_fine known l d p e t g u (form FalseH m ps) k =
     take_none ps (shaped 0 (parts FalseH) known m ps k.3.3.3.1.1 k.3.3.3.1.2) (λ x. Fine known BoolRecH l (frozen d p (frozen e t (frozen g u (ready (form FalseH m x) none)))) (Some (case_of (record { env = g; body = u }))))
-      (λ at. refl, (k.3.3.1, k.3.3.2), omega arith)
+    (λ at. refl, (k.3.3.1, k.3.3.2), omega arith)
 bool_fine known l d p e t g u (form h m ps) k = (λ at. refl, tt, tt)
 
 nat_fine : (known : ℕ → Type 0) (l : ℕ) (d : Vals) (p : Tm) (e : Vals) (t : Tm) (g : Vals) (u : Tm) (v : Val) → AreKnownParts known l (parts NatRecH) (frozen d p (frozen e t (frozen g u (ready v none))))
@@ -144,11 +144,11 @@ nat_fine : (known : ℕ → Type 0) (l : ℕ) (d : Vals) (p : Tm) (e : Vals) (t 
 nat_fine known l d p e t g u (level n) k = (λ at. refl, tt, tt)
 nat_fine known l d p e t g u (form ZeroH m ps) k =
     take_none ps (shaped 0 (parts ZeroH) known m ps k.3.3.3.1.1 k.3.3.3.1.2) (λ x. Fine known NatRecH l (frozen d p (frozen e t (frozen g u (ready (form ZeroH m x) none)))) (Some (case_of (record { env = e; body = t }))))
-      (λ at. refl, (k.3.1, k.3.2), omega arith)
+    (λ at. refl, (k.3.1, k.3.2), omega arith)
 nat_fine known l d p e t g u (form SucH m ps) k =
     one_ready ps (shaped 1 (parts SucH) known m ps k.3.3.3.1.1 k.3.3.3.1.2)
-      (λ x. AreKnownParts known m (parts SucH) x → Fine known NatRecH l (frozen d p (frozen e t (frozen g u (ready (form SucH m x) none)))) (nat_step (frozen d p (frozen e t (frozen g u (ready (form SucH m x) none)))) (form SucH m x)))
-      (λ w q. (λ at. refl, ((k.1, k.2), (k.3.1, k.3.2), (k.3.3.1, k.3.3.2), q.1), omega arith)) k.3.3.3.1.2
+    (λ x. AreKnownParts known m (parts SucH) x → Fine known NatRecH l (frozen d p (frozen e t (frozen g u (ready (form SucH m x) none)))) (nat_step (frozen d p (frozen e t (frozen g u (ready (form SucH m x) none)))) (form SucH m x)))
+    (λ w q. (λ at. refl, ((k.1, k.2), (k.3.1, k.3.2), (k.3.3.1, k.3.3.2), q.1), omega arith)) k.3.3.3.1.2
 nat_fine known l d p e t g u (form h m ps) k = (λ at. refl, tt, tt)
 
 list_fine : (known : ℕ → Type 0) (l : ℕ) (d : Vals) (p : Tm) (e : Vals) (t : Tm) (g : Vals) (u : Tm) (v : Val) → AreKnownParts known l (parts ListRecH) (frozen d p (frozen e t (frozen g u (ready v none))))
@@ -156,11 +156,11 @@ list_fine : (known : ℕ → Type 0) (l : ℕ) (d : Vals) (p : Tm) (e : Vals) (t
 list_fine known l d p e t g u (level n) k = (λ at. refl, tt, tt)
 list_fine known l d p e t g u (form NilH m ps) k =
     one_ready ps (shaped 1 (parts NilH) known m ps k.3.3.3.1.1 k.3.3.3.1.2) (λ x. Fine known ListRecH l (frozen d p (frozen e t (frozen g u (ready (form NilH m x) none)))) (Some (case_of (record { env = e; body = t }))))
-      (λ a. (λ at. refl, (k.3.1, k.3.2), omega arith))
+    (λ a. (λ at. refl, (k.3.1, k.3.2), omega arith))
 list_fine known l d p e t g u (form ConsH m ps) k =
     two_ready ps (shaped 2 (parts ConsH) known m ps k.3.3.3.1.1 k.3.3.3.1.2)
-      (λ x. AreKnownParts known m (parts ConsH) x → Fine known ListRecH l (frozen d p (frozen e t (frozen g u (ready (form ConsH m x) none)))) (list_step (frozen d p (frozen e t (frozen g u (ready (form ConsH m x) none)))) (form ConsH m x)))
-      (λ x y q. (λ at. refl, ((k.1, k.2), (k.3.1, k.3.2), (k.3.3.1, k.3.3.2), q.1, q.2.1), omega arith)) k.3.3.3.1.2
+    (λ x. AreKnownParts known m (parts ConsH) x → Fine known ListRecH l (frozen d p (frozen e t (frozen g u (ready (form ConsH m x) none)))) (list_step (frozen d p (frozen e t (frozen g u (ready (form ConsH m x) none)))) (form ConsH m x)))
+    (λ x y q. (λ at. refl, ((k.1, k.2), (k.3.1, k.3.2), (k.3.3.1, k.3.3.2), q.1, q.2.1), omega arith)) k.3.3.3.1.2
 list_fine known l d p e t g u (form h m ps) k = (λ at. refl, tt, tt)
 
 pub redex_fine : (known : ℕ → Type 0) (h : Head) (l : ℕ) (ps : VParts) → Fits h (parts_in ps) → AreKnownParts known l (parts h) ps → Fine known h l ps (redex h ps)
@@ -168,7 +168,7 @@ redex_fine known (AppH i) l ps f k =
     two_ready ps (shaped 2 (parts (AppH i)) known l ps f k) (λ x. AreKnownParts known l (parts (AppH i)) x → Fine known (AppH i) l x (redex (AppH i) x)) (λ v w q. app_fine known i l v w q.1 q.2.1) k
 redex_fine known LetH l ps f k =
     kept_ready_kept ps (shaped 3 (parts LetH) known l ps f k) (λ x. AreKnownParts known l (parts LetH) x → Fine known LetH l x (redex LetH x))
-      (λ d a v e t q. (λ at. refl, ((q.3.2.1, q.3.2.2), q.3.1), omega arith)) k
+    (λ d a v e t q. (λ at. refl, ((q.3.2.1, q.3.2.2), q.3.1), omega arith)) k
 redex_fine known FstH l ps f k = one_ready ps (shaped 1 (parts FstH) known l ps f k) (λ x. AreKnownParts known l (parts FstH) x → Fine known FstH l x (redex FstH x)) (λ v q. first_fine known l v q.1) k
 redex_fine known SndH l ps f k = one_ready ps (shaped 1 (parts SndH) known l ps f k) (λ x. AreKnownParts known l (parts SndH) x → Fine known SndH l x (redex SndH x)) (λ v q. second_fine known l v q.1) k
 redex_fine known UnitRecH l ps f k = recursor ps (shaped 3 (parts UnitRecH) known l ps f k) (λ x. AreKnownParts known l (parts UnitRecH) x → Fine known UnitRecH l x (redex UnitRecH x)) (λ d p e t v q. unit_fine known l d p e t v q) k

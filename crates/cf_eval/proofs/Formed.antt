@@ -20,11 +20,11 @@ pub is_value : (known : ℕ → Type 0) (v : Val) → IsKnown known v → (at : 
 is_value known (level n) h at k d = variable_stays (at n) k d
 is_value known (form c l ps) h at k d = h.0 at k d
 
-choose_kept : (b : Bool) (y : Outs) {x z : Outs} → b ≡ true → x ≡ z → elim b as (λ _. Outs) [ | true ↦ x | false ↦ y ] ≡ z
+choose_kept : (b : Bool) (y : Outs) {x z : Outs} → b ≡ true → x ≡ z → elim b as (λ _. Outs) [ true ↦ x | false ↦ y ] ≡ z
 choose_kept true y e p = p
 choose_kept false y e p = cc
 
-choose_ready : (b : Bool) (x : Outs) {y z : Outs} → b ≡ false → y ≡ z → elim b as (λ _. Outs) [ | true ↦ x | false ↦ y ] ≡ z
+choose_ready : (b : Bool) (x : Outs) {y z : Outs} → b ≡ false → y ≡ z → elim b as (λ _. Outs) [ true ↦ x | false ↦ y ] ≡ z
 choose_ready true x e p = cc
 choose_ready false x e p = p
 
@@ -36,7 +36,7 @@ module _ (goes : EvaluationGoesOn) where
       let e : evaluate_by evaluate k d (term_at (with_levels (first_part qs).binds l at) v) ≡ Done (term_at (with_levels (first_part qs).binds l at) v) k =
       sym (goes k d (term_at (with_levels (first_part qs).binds l at) v)) ∙ is_value (or_levels (first_part qs).binds l known) v h.1 (with_levels (first_part qs).binds l at) k d in
       choose_ready (first_part qs).kept _ h.0
-        (ap (λ o. and_then o (λ j. evaluate_all_by evaluate j d (rest_parts qs) (terms_at at l (rest_parts qs) ps))) e ∙ ap (before (term_at (with_levels (first_part qs).binds l at) v)) (settled known l (rest_parts qs) ps h.2 at k d))
+      (ap (λ o. and_then o (λ j. evaluate_all_by evaluate j d (rest_parts qs) (terms_at at l (rest_parts qs) ps))) e ∙ ap (before (term_at (with_levels (first_part qs).binds l at) v)) (settled known l (rest_parts qs) ps h.2 at k d))
   settled known l qs (frozen e t ps) h at k d =
       choose_kept (first_part qs).kept _ h.0 (ap (before _) (settled known l (rest_parts qs) ps h.3 at k d))
 
@@ -56,7 +56,7 @@ quote_fine : (known : ℕ → Type 0) (l : ℕ) (v : Val) → IsKnown known v �
 quote_fine known l (level n) kv = λ at. refl
 quote_fine known l (form SpliceH m ps) kv =
     one_ready ps (shaped 1 (parts SpliceH) known m ps kv.1 kv.2) (λ x. AreKnownParts known m (parts SpliceH) x → Unquoted known QuoteH l (ready (form SpliceH m x) none) (ready_part x 0))
-      (λ t k. (λ at. refl, k.1, omega arith)) kv.2
+    (λ t k. (λ at. refl, k.1, omega arith)) kv.2
 quote_fine known l (form h m ps) kv = λ at. refl
 
 pub unquoted_fine : (known : ℕ → Type 0) (h : Head) (l : ℕ) (ps : VParts) → Fits h (parts_in ps) → AreKnownParts known l (parts h) ps → Unquoted known h l ps (unquoted h ps)

@@ -88,7 +88,7 @@ head_of nil us = us
 after_also : (ps : List Part) (t v : Tm) (ts : Tms) (o : Outs) → ((vs : Tms) (l : ℕ) → o ≡ AllDone vs l → (known : ℕ → Option Tm) → ReachesAll known (rest_parts ps) ts vs) → ((known : ℕ → Option Tm) → Reaches known t v) → (vs : Tms) (l : ℕ) → before v o ≡ AllDone vs l → (known : ℕ → Option Tm) → ReachesAll known ps (cons t ts) vs
 after_also ps t v ts (AllDone ws k) ih s vs l p known =
     subst (ReachesAll known ps (cons t ts)) (ap (λ o. values_of o vs) p)
-      (then_all (at_head ps ts (s (beneath (first_part ps).binds known))) (at_tail ps v (ih ws k refl known)))
+    (then_all (at_head ps ts (s (beneath (first_part ps).binds known))) (at_tail ps v (ih ws k refl known)))
 after_also ps t v ts AllSpent ih s vs l p known = absurd (subst are_done (sym p) tt)
 after_also ps t v ts AllDeep ih s vs l p known = absurd (subst are_done (sym p) tt)
 
@@ -110,9 +110,9 @@ mutual
   all_reached_by nil f ok k d ps vs l p known = subst (ReachesAll known ps nil) (ap (λ o. values_of o vs) p) there_all
   all_reached_by (cons t ts) f ok k d ps vs l p known =
       either_part (first_part ps).kept (λ o. (o ≡ AllDone vs l) → ReachesAll known ps (cons t ts) vs)
-        (λ q. after_also ps t t ts (evaluate_all_by f k d (rest_parts ps) ts) (λ ws l' r known'. all_reached_by ts f ok k d (rest_parts ps) ws l' r known') (λ known'. there) vs l q known)
-        (λ q. after_and ps t ts (evaluate_by f k d t) (λ j. evaluate_all_by f j d (rest_parts ps) ts) (λ v l' r known'. reached_by t f ok k d v l' r known') (λ j ws l' r known'. all_reached_by ts f ok j d (rest_parts ps) ws l' r known') vs l q known)
-        p
+      (λ q. after_also ps t t ts (evaluate_all_by f k d (rest_parts ps) ts) (λ ws l' r known'. all_reached_by ts f ok k d (rest_parts ps) ws l' r known') (λ known'. there) vs l q known)
+      (λ q. after_and ps t ts (evaluate_by f k d t) (λ j. evaluate_all_by f j d (rest_parts ps) ts) (λ v l' r known'. reached_by t f ok k d v l' r known') (λ j ws l' r known'. all_reached_by ts f ok j d (rest_parts ps) ws l' r known') vs l q known)
+      p
 
 pub reached_within : (n : ℕ) → Right (evaluate_within n)
 reached_within zero k d t v l p known = reached_by t (λ _ _ _. Spent) (λ k' d' t' v' l' q known'. absurd (subst is_done (sym q) tt)) k d v l p known

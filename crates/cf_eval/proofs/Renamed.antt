@@ -124,9 +124,9 @@ module _ (put : RenamingOfSubstituted) (again : SubstitutionOfRenamed) where
     evs_by_renamed nil g ok f k d ps = refl
     evs_by_renamed (cons t ts) g ok f k d ps =
         choice (first_part ps).kept (all_renamed f ps)
-          (ap (before (rename (lifts (first_part ps).binds f) t)) (evs_by_renamed ts g ok f k d (rest_parts ps)) ∙ also_renamed f ps t (evaluate_all_by g k d (rest_parts ps) ts))
-          (ap (λ o. and_then o (λ l. evaluate_all_by g l d (rest_parts ps) (rename_all f (rest_parts ps) ts))) (ev_by_renamed t g ok (lifts (first_part ps).binds f) k d)
-            ∙ and_renamed f ps (evaluate_by g k d t) (λ l. evaluate_all_by g l d (rest_parts ps) (rename_all f (rest_parts ps) ts)) (λ l. evaluate_all_by g l d (rest_parts ps) ts) (λ l. evs_by_renamed ts g ok f l d (rest_parts ps)))
+        (ap (before (rename (lifts (first_part ps).binds f) t)) (evs_by_renamed ts g ok f k d (rest_parts ps)) ∙ also_renamed f ps t (evaluate_all_by g k d (rest_parts ps) ts))
+        (ap (λ o. and_then o (λ l. evaluate_all_by g l d (rest_parts ps) (rename_all f (rest_parts ps) ts))) (ev_by_renamed t g ok (lifts (first_part ps).binds f) k d)
+        ∙ and_renamed f ps (evaluate_by g k d t) (λ l. evaluate_all_by g l d (rest_parts ps) (rename_all f (rest_parts ps) ts)) (λ l. evaluate_all_by g l d (rest_parts ps) ts) (λ l. evs_by_renamed ts g ok f l d (rest_parts ps)))
 
   pub through : (n : ℕ) → Through (evaluate_within n)
   through zero f k d t = ev_by_renamed t (λ _ _ _. Spent) (λ _ _ _ _. refl) f k d

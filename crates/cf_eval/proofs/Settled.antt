@@ -34,9 +34,9 @@ mutual
   all_to_themselves nil ps h g k d = refl
   all_to_themselves (cons t ts) ps h g k d =
       stays-part (first_part ps).kept (before t (evaluate_all_by g k d (rest_parts ps) ts)) (and_then (evaluate_by g k d t) (λ l. evaluate_all_by g l d (rest_parts ps) ts)) (AllDone (cons t ts) k)
-        (λ v. ap (λ o. and_then o (λ l. evaluate_all_by g l d (rest_parts ps) ts)) (to_itself t v g k d) ∙ ap (before t) (all_to_themselves ts (rest_parts ps) h.1 g k d))
-        (ap (before t) (all_to_themselves ts (rest_parts ps) h.1 g k d))
-        h.0
+      (λ v. ap (λ o. and_then o (λ l. evaluate_all_by g l d (rest_parts ps) ts)) (to_itself t v g k d) ∙ ap (before t) (all_to_themselves ts (rest_parts ps) h.1 g k d))
+      (ap (before t) (all_to_themselves ts (rest_parts ps) h.1 g k d))
+      h.0
 
 -- what goes on after a step answers values
 abbrev pub Answers : (ℕ → ℕ → Tm → Out) → Type 0
@@ -92,9 +92,9 @@ mutual
   all_answers_by nil g ok k d ps vs l e = subst (AreV ps) (ap (λ o. values_of o vs) e) tt
   all_answers_by (cons t ts) g ok k d ps vs l e =
       split (first_part ps).kept (λ o. (o ≡ AllDone vs l) → AreV ps vs)
-        (λ b q. also-v ps t (subst (λ x. IfEager x (IsV t)) (sym b) tt) (evaluate_all_by g k d (rest_parts ps) ts) (λ ws j r. all_answers_by ts g ok k d (rest_parts ps) ws j r) vs l q)
-        (λ b q. and-v ps b (evaluate_by g k d t) (λ j. evaluate_all_by g j d (rest_parts ps) ts) (λ w j r. answers_by t g ok k d w j r) (λ j ws m r. all_answers_by ts g ok j d (rest_parts ps) ws m r) vs l q)
-        e
+      (λ b q. also-v ps t (subst (λ x. IfEager x (IsV t)) (sym b) tt) (evaluate_all_by g k d (rest_parts ps) ts) (λ ws j r. all_answers_by ts g ok k d (rest_parts ps) ws j r) vs l q)
+      (λ b q. and-v ps b (evaluate_by g k d t) (λ j. evaluate_all_by g j d (rest_parts ps) ts) (λ w j r. answers_by t g ok k d w j r) (λ j ws m r. all_answers_by ts g ok j d (rest_parts ps) ws m r) vs l q)
+      e
 
 pub answers : (n : ℕ) → Answers (evaluate_within n)
 answers zero k d t v l e = answers_by t (λ _ _ _. Spent) (λ k' d' t' v' l' q. absurd (subst is_done (sym q) tt)) k d v l e

@@ -51,7 +51,7 @@ finish_most f s k d h (AllDone vs l) a = or_most f s l k d (formed h vs) (contra
 finish_most f s k d h AllSpent a = tt
 finish_most f s k d h AllDeep a = tt
 
-choose : (b : Bool) {x y : Outs} (P : Outs → Type 0) → P x → P y → P (elim b [ | true ↦ x | false ↦ y ])
+choose : (b : Bool) {x y : Outs} (P : Outs → Type 0) → P x → P y → P (elim b [ true ↦ x | false ↦ y ])
 choose true P p q = p
 choose false P p q = q
 
@@ -64,8 +64,8 @@ mutual
   saves_all_by nil f s j k d ps h = h
   saves_all_by (cons t ts) f s j k d ps h =
       choose (first_part ps).kept (AllAtMost k)
-        (before_most k t (evaluate_all_by f j d (rest_parts ps) ts) (saves_all_by ts f s j k d (rest_parts ps) h))
-        (then_most k (evaluate_by f j d t) (λ l. evaluate_all_by f l d (rest_parts ps) ts) (saves_by t f s j k d h) (λ l g. saves_all_by ts f s l k d (rest_parts ps) g))
+      (before_most k t (evaluate_all_by f j d (rest_parts ps) ts) (saves_all_by ts f s j k d (rest_parts ps) h))
+      (then_most k (evaluate_by f j d t) (λ l. evaluate_all_by f l d (rest_parts ps) ts) (saves_by t f s j k d h) (λ l g. saves_all_by ts f s l k d (rest_parts ps) g))
 
 pub saves_within : (n : ℕ) → Saves (evaluate_within n)
 saves_within zero k d t = saves_by t (λ _ _ _. Spent) (λ _ _ _. tt) k k d (omega arith)
@@ -95,7 +95,7 @@ finish_same f g k d h (AllDone vs l) a m = or_same f g l k d (formed h vs) (cont
 finish_same f g k d h AllSpent a m = refl
 finish_same f g k d h AllDeep a m = refl
 
-choose_same : (b : Bool) {x y v w : Outs} → x ≡ v → y ≡ w → elim b as (λ _. Outs) [ | true ↦ x | false ↦ y ] ≡ elim b as (λ _. Outs) [ | true ↦ v | false ↦ w ]
+choose_same : (b : Bool) {x y v w : Outs} → x ≡ v → y ≡ w → elim b as (λ _. Outs) [ true ↦ x | false ↦ y ] ≡ elim b as (λ _. Outs) [ true ↦ v | false ↦ w ]
 choose_same true p q = p
 choose_same false p q = q
 
@@ -110,11 +110,10 @@ mutual
   same_all_by nil f g s j k d ps a h = refl
   same_all_by (cons t ts) f g s j k d ps a h =
       choose_same (first_part ps).kept
-        (ap (before t) (same_all_by ts f g s j k d (rest_parts ps) a h))
-        (then_same k (evaluate_by f j d t) (λ l. evaluate_all_by f l d (rest_parts ps) ts) (λ l. evaluate_all_by g l d (rest_parts ps) ts)
-          (saves_by t f s j k d h) (λ l m. same_all_by ts f g s l k d (rest_parts ps) a m)
-        ∙ ap (λ o. and_then o (λ l. evaluate_all_by g l d (rest_parts ps) ts)) (same_by t f g s j k d a h))
-
+      (ap (before t) (same_all_by ts f g s j k d (rest_parts ps) a h))
+      (then_same k (evaluate_by f j d t) (λ l. evaluate_all_by f l d (rest_parts ps) ts) (λ l. evaluate_all_by g l d (rest_parts ps) ts)
+      (saves_by t f s j k d h) (λ l m. same_all_by ts f g s l k d (rest_parts ps) a m)
+      ∙ ap (λ o. and_then o (λ l. evaluate_all_by g l d (rest_parts ps) ts)) (same_by t f g s j k d a h))
 
 room : (n m k d : ℕ) (t : Tm) → k ≤ n → k ≤ m → evaluate_within n k d t ≡ evaluate_within m k d t
 room zero zero k d t h g = refl

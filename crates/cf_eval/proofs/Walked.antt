@@ -123,7 +123,7 @@ abbrev pub put : (at : ℕ → ℕ) → Vals → List Part → Tms → Tms
 put at e ps ts = substitute_all (env_at at e) ps (bare_all ts)
 
 choose_part : (goes : EvaluationGoesOn) (b : Bool) (k d : ℕ) (t : Tm) (rest : ℕ → Outs)
-    → elim b as (λ _. Outs) [ | true ↦ before t (rest k) | false ↦ and_then (evaluate_by evaluate k d t) rest ] ≡ and_then (part_out b k d t) rest
+    → elim b as (λ _. Outs) [ true ↦ before t (rest k) | false ↦ and_then (evaluate_by evaluate k d t) rest ] ≡ and_then (part_out b k d t) rest
 choose_part goes true k d t rest = refl
 choose_part goes false k d t rest = ap (λ o. and_then o rest) (sym (goes k d t))
 
@@ -149,12 +149,12 @@ next_closed ps ts i n p h c = rw (seen_binds ps ts i p h) (subst (AreClosed n (p
 -- the next part, as it stands in the whole
 pub next_out : (goes : EvaluationGoesOn) (ps : List Part) (ts : Tms) (e : Vals) (at : ℕ → ℕ) (k d : ℕ) (i : ℕ) (p : seen.Part) → IsPart (Some p) (part_at ps ts i)
     → evaluate_all_by evaluate k d (places_after i ps) (put at e (places_after i ps) (after i ts))
-      ≡ and_then (part_out p.kept k d (substitute (ups p.binds (env_at at e)) (bare p.term.now.value))) (λ l. evaluate_all_by evaluate l d (places_after (i + 1) ps) (put at e (places_after (i + 1) ps) (after (i + 1) ts)))
+    ≡ and_then (part_out p.kept k d (substitute (ups p.binds (env_at at e)) (bare p.term.now.value))) (λ l. evaluate_all_by evaluate l d (places_after (i + 1) ps) (put at e (places_after (i + 1) ps) (after (i + 1) ts)))
 next_out goes ps ts e at k d i p h =
     ap (λ us. evaluate_all_by evaluate k d (places_after i ps) (put at e (places_after i ps) us)) (seen_next ps ts i p h)
     ∙ first_then goes k d (places_after i ps) (substitute (ups (first_part (places_after i ps)).binds (env_at at e)) (bare p.term.now.value)) (put at e (rest_parts (places_after i ps)) (after (i + 1) ts))
     ∙ ap₂ (λ b n. and_then (part_out b k d (substitute (ups n (env_at at e)) (bare p.term.now.value))) (λ l. evaluate_all_by evaluate l d (rest_parts (places_after i ps)) (put at e (rest_parts (places_after i ps)) (after (i + 1) ts))))
-      (sym (seen_kept ps ts i p h)) (sym (seen_binds ps ts i p h))
+    (sym (seen_kept ps ts i p h)) (sym (seen_binds ps ts i p h))
     ∙ ap (λ qs. and_then (part_out p.kept k d (substitute (ups p.binds (env_at at e)) (bare p.term.now.value))) (λ l. evaluate_all_by evaluate l d qs (put at e qs (after (i + 1) ts)))) (rest_next i ps)
 
 -- one part more is made
@@ -166,19 +166,18 @@ pub one_more : (goes : EvaluationGoesOn) (ps : List Part) (ts : Tms) (e : Vals) 
 one_more goes ps ts e l k d made i left p q saved h w o kq b s =
     let n : length made ≡ i = w.0 in
     let binds : (first_part (places_after (length made) ps)).binds ≡ p.binds = ap (λ j. (first_part (places_after j ps)).binds) n ∙ sym (seen_binds ps ts i p h) in
-    let kept : (first_part (places_after (length made) ps)).kept ≡ p.kept = ap (λ j. (first_part (places_after j ps)).kept) n ∙ sym (seen_kept ps ts i p h) in
-    (
+    let kept : (first_part (places_after (length made) ps)).kept ≡ p.kept = ap (λ j. (first_part (places_after j ps)).kept) n ∙ sym (seen_kept ps ts i p h) in (
       omega (arith, n, length-append made (q ∷ [])),
       (λ at. w.1 at
-        ∙ ap (befores (terms_at at l ps (seen_parts made)))
+          ∙ ap (befores (terms_at at l ps (seen_parts made)))
           (next_out goes ps ts e at left d i p h ∙ ap (λ r. and_then r (λ m. evaluate_all_by evaluate m d (places_after (i + 1) ps) (put at e (places_after (i + 1) ps) (after (i + 1) ts)))) (o at))
-        ∙ sym (befores_joined (terms_at at l ps (seen_parts made)) (cons (part_term at l p.binds q) nil) (evaluate_all_by evaluate saved d (places_after (i + 1) ps) (put at e (places_after (i + 1) ps) (after (i + 1) ts))))
-        ∙ ap (λ us. befores us (evaluate_all_by evaluate saved d (places_after (i + 1) ps) (put at e (places_after (i + 1) ps) (after (i + 1) ts))))
+          ∙ sym (befores_joined (terms_at at l ps (seen_parts made)) (cons (part_term at l p.binds q) nil) (evaluate_all_by evaluate saved d (places_after (i + 1) ps) (put at e (places_after (i + 1) ps) (after (i + 1) ts))))
+          ∙ ap (λ us. befores us (evaluate_all_by evaluate saved d (places_after (i + 1) ps) (put at e (places_after (i + 1) ps) (after (i + 1) ts))))
           (ap (λ m. joined (terms_at at l ps (seen_parts made)) (cons (part_term at l m q) nil)) (sym binds) ∙ sym (terms_grown at l ps made q))),
       known_grown (below l) l ps made q w.2 (known_at (below l) l (places_after (length made) ps) (record { binds = p.binds; kept = p.kept }) q binds kept kq),
       subst (λ qs. AreClosed (values_in e) qs (after (i + 1) ts)) (rest_next i ps) (subst (AreClosed (values_in e) (places_after i ps)) (seen_next ps ts i p h) w.3).1,
       omega (arith, bulk_grown made q, w.4, b, seen_deep ps ts i p h),
-      omega (arith, s, w.5)
+      omega (arith, s, w.5),
     )
 
 befores_all : (ts : Tms) (k : ℕ) → befores ts (AllDone nil k) ≡ AllDone ts k

@@ -131,7 +131,7 @@ abbrev pub opened_with : Option Kept → Val → Option Goal
 opened_with f u = bind f (λ b. Some (opened b u))
 
 abbrev pub unit_step : VParts → Val → Option Goal
-unit_step ps n = elim (unit_of n) [ | true ↦ case_at ps 1 | false ↦ None ]
+unit_step ps n = elim (unit_of n) [ true ↦ case_at ps 1 | false ↦ None ]
 
 abbrev pub bool_step : VParts → Option Bool → Option Goal
 bool_step ps None = None
@@ -139,10 +139,10 @@ bool_step ps (Some true) = case_at ps 1
 bool_step ps (Some false) = case_at ps 2
 
 abbrev pub nat_step : VParts → Val → Option Goal
-nat_step ps n = elim (zero_of n) [ | true ↦ case_at ps 1 | false ↦ bind (suc_of n) (after_number ps) ]
+nat_step ps n = elim (zero_of n) [ true ↦ case_at ps 1 | false ↦ bind (suc_of n) (after_number ps) ]
 
 abbrev pub list_step : VParts → Val → Option Goal
-list_step ps l = elim (nil_of l) [ | true ↦ case_at ps 1 | false ↦ bind (head_item l) (λ x. bind (other_items l) (after_list ps x)) ]
+list_step ps l = elim (nil_of l) [ true ↦ case_at ps 1 | false ↦ bind (head_item l) (λ x. bind (other_items l) (after_list ps x)) ]
 
 abbrev pub value_at : Option Val → Option Goal
 value_at v = bind v (λ u. Some (value u))

@@ -407,13 +407,7 @@ fn opened(
 
 /// The value of a kept part.
 #[cycle(evaluating)]
-fn thawed(
-    alloc: Global,
-    t: &Frozen,
-    steps: u64,
-    depth: u32,
-    nest: u32,
-) -> Result<Reached, EvalEnd>
+fn thawed(alloc: Global, t: &Frozen, steps: u64, depth: u32, nest: u32) -> Result<Reached, EvalEnd>
     requires closed { IsKnownKept (below depth) 0 (kept_of t.now) }
     ensures equal { (at : ℕ → ℕ) → Answers result (λ r. Done (term_at at r.value.value) r.left) (evaluate steps nest (kept_at at (kept_of t.now))) }
     ensures known { IfOk result (λ r. IsValueIn depth r.value.value) }

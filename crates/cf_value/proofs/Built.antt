@@ -53,7 +53,6 @@ branches_end (x ∷ xs) (suc i) h = branches_end xs i (omega arith)
 
 -- the heads of branches
 
-
 pub heads_grown : (bs : List (branch.Branch)) (b : branch.Branch) → heads (bs ++ b ∷ []) ≡ heads bs ++ record { type = b.data_type; ctor = b.ctor; names = b.names } ∷ []
 heads_grown [] b = refl
 heads_grown (x ∷ xs) b = ap (λ hs. record { type = x.data_type; ctor = x.ctor; names = x.names } ∷ hs) (heads_grown xs b)

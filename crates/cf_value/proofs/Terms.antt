@@ -15,7 +15,7 @@ use Rattle.cf_value.specs.Laws.{RenamingOfValue, ValueOfContext, EnvironmentUnde
 
 -- ---- renaming
 
-lift_choice : (f : ℕ → ℕ) (b : Bool) (m : ℕ) → lift f (elim b as (λ _. ℕ) [ | true ↦ 0 | false ↦ suc m ]) ≡ elim b as (λ _. ℕ) [ | true ↦ 0 | false ↦ suc (f m) ]
+lift_choice : (f : ℕ → ℕ) (b : Bool) (m : ℕ) → lift f (elim b as (λ _. ℕ) [ true ↦ 0 | false ↦ suc m ]) ≡ elim b as (λ _. ℕ) [ true ↦ 0 | false ↦ suc (f m) ]
 lift_choice f true m = refl
 lift_choice f false m = refl
 
@@ -52,9 +52,9 @@ module _ (compose : RenamingsCompose) (put : RenamingOfSubstituted) where
     renamed_parts (frozen e t ps) qs l f at =
         let k = (first_part qs).binds in
         ap₂ cons
-          (put (bare t) (lifts k f) (ups k (env_at at e))
-            ∙ ap (λ s. substitute s (bare t)) (fun_ext (λ i. rename_ups k f (env_at at e) i ∙ ap (λ s. ups k s i) (fun_ext (renamed_env e f at)))))
-          (renamed_parts ps (rest_parts qs) l f at)
+        (put (bare t) (lifts k f) (ups k (env_at at e))
+        ∙ ap (λ s. substitute s (bare t)) (fun_ext (λ i. rename_ups k f (env_at at e) i ∙ ap (λ s. ups k s i) (fun_ext (renamed_env e f at)))))
+        (renamed_parts ps (rest_parts qs) l f at)
 
     renamed_env : (e : Vals) (f at : ℕ → ℕ) (i : ℕ) → rename f (env_at at e i) ≡ env_at (λ n. f (at n)) e i
     renamed_env empty f at i = refl
@@ -69,8 +69,8 @@ module _ (compose : RenamingsCompose) (put : RenamingOfSubstituted) where
 abbrev pub Agree : (known : ℕ → Type 0) → (at to : ℕ → ℕ) → Type 0
 Agree known at to = (n : ℕ) → known n → at n ≡ to n
 
-agree_choice : (b : Bool) (x : Type 0) (p q : ℕ) → (x → p ≡ q) → elim b as (λ _. Type 0) [ | true ↦ Unit {0} | false ↦ x ]
-    → elim b as (λ _. ℕ) [ | true ↦ 0 | false ↦ suc p ] ≡ elim b as (λ _. ℕ) [ | true ↦ 0 | false ↦ suc q ]
+agree_choice : (b : Bool) (x : Type 0) (p q : ℕ) → (x → p ≡ q) → elim b as (λ _. Type 0) [ true ↦ Unit {0} | false ↦ x ]
+    → elim b as (λ _. ℕ) [ true ↦ 0 | false ↦ suc p ] ≡ elim b as (λ _. ℕ) [ true ↦ 0 | false ↦ suc q ]
 agree_choice true x p q f h = refl
 agree_choice false x p q f h = ap suc (f h)
 
@@ -109,7 +109,7 @@ new_level d k n at h = let e : nat_eq n (d + k) ≡ false = grind (arith, nat_te
 own_level : (l : ℕ) (at : ℕ → ℕ) → with_level l at l ≡ 0
 own_level l at = let e : nat_eq l l ≡ true = grind (arith, nat_tests) in rw (with_level, e) refl
 
-more_choice : (b : Bool) {x y : Type 0} → (x → y) → elim b as (λ _. Type 0) [ | true ↦ Unit {0} | false ↦ x ] → elim b as (λ _. Type 0) [ | true ↦ Unit {0} | false ↦ y ]
+more_choice : (b : Bool) {x y : Type 0} → (x → y) → elim b as (λ _. Type 0) [ true ↦ Unit {0} | false ↦ x ] → elim b as (λ _. Type 0) [ true ↦ Unit {0} | false ↦ y ]
 more_choice true f h = h
 more_choice false f h = f h
 
@@ -177,7 +177,7 @@ stands_for_value d (form c l ps) h at = h.0 at
 pub variables : VariablesAreValues
 variables n d e h = known_variables n d e h
 
-or_choice : (b : Bool) (x y : Type 0) → (b ≡ false → x → y) → x → elim b as (λ _. Type 0) [ | true ↦ Unit {0} | false ↦ y ]
+or_choice : (b : Bool) (x y : Type 0) → (b ≡ false → x → y) → x → elim b as (λ _. Type 0) [ true ↦ Unit {0} | false ↦ y ]
 or_choice true x y f h = tt
 or_choice false x y f h = f refl h
 
@@ -189,7 +189,7 @@ below_levels (suc k) d n h =
 pub under : ValueUnderBinders
 under k d v h = more v (below (d + k)) (or_levels k d (below d)) (λ n g. below_levels k d n g) h
 
-from_choice : (b : Bool) (x y : Type 0) → (b ≡ true → y) → (x → y) → elim b as (λ _. Type 0) [ | true ↦ Unit {0} | false ↦ x ] → y
+from_choice : (b : Bool) (x y : Type 0) → (b ≡ true → y) → (x → y) → elim b as (λ _. Type 0) [ true ↦ Unit {0} | false ↦ x ] → y
 from_choice true x y f g h = f refl
 from_choice false x y f g h = g h
 

@@ -18,7 +18,7 @@ abbrev mutual
 
 -- l, or a level that is known
 abbrev pub or_level : ℕ → (ℕ → Type 0) → ℕ → Type 0
-or_level l known n = elim (nat_eq n l) as (λ _. Type 0) [ | true ↦ Unit {0} | false ↦ known n ]
+or_level l known n = elim (nat_eq n l) as (λ _. Type 0) [ true ↦ Unit {0} | false ↦ known n ]
 
 -- one of the n levels from l on, or a level that is known
 abbrev pub or_levels : (n l : ℕ) → (ℕ → Type 0) → ℕ → Type 0

@@ -12,7 +12,7 @@ in_context d n = d - 1 - n
 
 -- under one object variable more, which has the level l
 abbrev pub with_level : ℕ → (ℕ → ℕ) → ℕ → ℕ
-with_level l at n = elim (nat_eq n l) [ | true ↦ 0 | false ↦ suc (at n) ]
+with_level l at n = elim (nat_eq n l) [ true ↦ 0 | false ↦ suc (at n) ]
 
 -- under n object variables more, which have the levels from l on
 abbrev pub with_levels : (n l : ℕ) → (ℕ → ℕ) → ℕ → ℕ

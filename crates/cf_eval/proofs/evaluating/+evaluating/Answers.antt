@@ -27,9 +27,9 @@ pub form_of-returns-clause-equal : goal.form_of-returns-clause-equal
 form_of-returns-clause-equal t c = λ at.
     let form = c.in_ok-shape.ensures.shape in
     carry c.finished.result (λ r. Done (term_at at r.value.value) r.left)
-      (form_goes c.evaluation_goes_on.ensures c.in_ok-shape.shape (tm_of c.args.node.now) (env_at at c.args.env.now) c.args.steps c.args.nest form
-        ∙ ap (finish evaluate c.args.nest (head_of c.in_ok-shape.shape)) (c.in_ok-all.ensures.equal at ∙ ap (λ qs. AllDone (terms_at at c.args.depth qs (seen_parts c.in_ok-all.all.parts.items)) c.in_ok-all.all.left) (ap places form)))
-      (c.finished.ensures.equal at)
+    (form_goes c.evaluation_goes_on.ensures c.in_ok-shape.shape (tm_of c.args.node.now) (env_at at c.args.env.now) c.args.steps c.args.nest form
+    ∙ ap (finish evaluate c.args.nest (head_of c.in_ok-shape.shape)) (c.in_ok-all.ensures.equal at ∙ ap (λ qs. AllDone (terms_at at c.args.depth qs (seen_parts c.in_ok-all.all.parts.items)) c.in_ok-all.all.left) (ap places form)))
+    (c.finished.ensures.equal at)
 
 pub parts_in_order-part_of-requires : goal.parts_in_order-part_of-requires
 parts_in_order-part_of-requires t c =
@@ -44,8 +44,8 @@ parts_in_order-returns-in_err-one-in-Some-clause-equal t c = λ at.
     let ps = places (tm_of c.args.node.now) in
     let ts = terms (tm_of c.args.node.now) in
     err_all c.from_residual.result (λ r. AllDone (terms_at at c.args.depth ps (seen_parts r.parts.items)) r.left) _ c.in_err-one-in-Some.field-0.0 c.from_residual.ensures.0 c.from_residual.ensures.1
-      (part_refused c.evaluation_goes_on.ensures c.in_err-one-in-Some.field-0.0 (λ r. Done (part_term at c.args.depth c.in-Some.p.binds r.part) r.left) (λ r. AllDone (terms_at at c.args.depth ps (seen_parts r.parts.items)) r.left)
-        ps ts c.args.env.now c.args.depth c.args.steps c.args.nest c.loop-i.made.items c.loop-i.i c.loop-i.left c.in-Some.p at c.in-Some.ensures c.loop-i.invariant (c.in_err-one-in-Some.ensures.equal at))
+    (part_refused c.evaluation_goes_on.ensures c.in_err-one-in-Some.field-0.0 (λ r. Done (part_term at c.args.depth c.in-Some.p.binds r.part) r.left) (λ r. AllDone (terms_at at c.args.depth ps (seen_parts r.parts.items)) r.left)
+    ps ts c.args.env.now c.args.depth c.args.steps c.args.nest c.loop-i.made.items c.loop-i.i c.loop-i.left c.in-Some.p at c.in-Some.ensures c.loop-i.invariant (c.in_err-one-in-Some.ensures.equal at))
 
 pub parts_in_order-unreachable-requires : goal.parts_in_order-unreachable-requires
 parts_in_order-unreachable-requires t c = not_past (places (tm_of c.args.node.now)) (terms (tm_of c.args.node.now)) c.loop-i.i (omega arith) c.in-None.ensures
@@ -53,8 +53,8 @@ parts_in_order-unreachable-requires t c = not_past (places (tm_of c.args.node.no
 pub parts_in_order-loop-i-preserved : goal.parts_in_order-loop-i-preserved
 parts_in_order-loop-i-preserved t c =
     rw c.in_ok-push-in-Some.ensures
-      (one_more c.evaluation_goes_on.ensures (places (tm_of c.args.node.now)) (terms (tm_of c.args.node.now)) c.args.env.now c.args.depth c.args.steps c.args.nest c.loop-i.made.items c.loop-i.i c.loop-i.left c.in-Some.p c.in_ok-one-in-Some.one.part c.in_ok-one-in-Some.one.left
-        c.in-Some.ensures c.loop-i.invariant c.in_ok-one-in-Some.ensures.equal c.in_ok-one-in-Some.ensures.known c.in_ok-one-in-Some.ensures.no_deeper c.in_ok-one-in-Some.ensures.spends)
+    (one_more c.evaluation_goes_on.ensures (places (tm_of c.args.node.now)) (terms (tm_of c.args.node.now)) c.args.env.now c.args.depth c.args.steps c.args.nest c.loop-i.made.items c.loop-i.i c.loop-i.left c.in-Some.p c.in_ok-one-in-Some.one.part c.in_ok-one-in-Some.one.left
+    c.in-Some.ensures c.loop-i.invariant c.in_ok-one-in-Some.ensures.equal c.in_ok-one-in-Some.ensures.known c.in_ok-one-in-Some.ensures.no_deeper c.in_ok-one-in-Some.ensures.spends)
 
 pub parts_in_order-returns-clause-equal : goal.parts_in_order-returns-clause-equal
 parts_in_order-returns-clause-equal t c = λ at.
@@ -75,7 +75,7 @@ pub under-returns-clause-equal : goal.under-returns-clause-equal
 under-returns-clause-equal t c = λ at.
     let is = under_is c.environment_under_binders.ensures c.in_ok-count.count c.args.binds c.args.depth c.args.env.now c.in_ok-inner.inner c.in_ok-count.ensures c.in_ok-inner.ensures c.requires.values at in
     carry c.value_of.result (λ r. Done (term_at (with_levels c.args.binds c.args.depth at) r.value.value) r.left) (ap (λ s. evaluate c.args.steps c.args.nest (substitute s (bare c.args.t.now))) (sym is))
-      (c.value_of.ensures.equal (with_levels c.args.binds c.args.depth at))
+    (c.value_of.ensures.equal (with_levels c.args.binds c.args.depth at))
 
 pub under-returns-clause-no_deeper : goal.under-returns-clause-no_deeper
 under-returns-clause-no_deeper t c = rw (c.in_ok-inner.ensures, bulks_with c.in_ok-count.count c.args.depth c.args.env.now) at c.value_of.ensures.no_deeper
@@ -107,8 +107,8 @@ finished-taken-requires t c =
 pub finished-returns-in-Some-clause-equal : goal.finished-returns-in-Some-clause-equal
 finished-returns-in-Some-clause-equal t c = λ at.
     carry c.taken.result (λ r. Done (term_at at r.value.value) r.left)
-      (finish_step (below c.args.depth) (head_of c.args.shape) c.args.depth (seen_parts c.args.parts.items) (goal_of c.in-Some.next) c.requires.fits c.requires.known c.in-Some.ensures at c.args.left c.args.nest)
-      (c.taken.ensures.equal at)
+    (finish_step (below c.args.depth) (head_of c.args.shape) c.args.depth (seen_parts c.args.parts.items) (goal_of c.in-Some.next) c.requires.fits c.requires.known c.in-Some.ensures at c.args.left c.args.nest)
+    (c.taken.ensures.equal at)
 
 pub finished-returns-in-Some-clause-no_deeper : goal.finished-returns-in-Some-clause-no_deeper
 finished-returns-in-Some-clause-no_deeper t c =
@@ -124,5 +124,5 @@ finished-returns-in_ok-formed-in-None-clause-equal t c = λ at.
 pub applied-returns-clause-equal : goal.applied-returns-clause-equal
 applied-returns-clause-equal t c = λ at.
     carry c.finished.result (λ r. Done (term_at at r.value.value) r.left)
-      (ap (λ ps. finish evaluate c.args.nest (AppH false) (AllDone (terms_at at c.args.depth [] ps) c.args.left)) (sym c.in_ok-parts.ensures))
-      (c.finished.ensures.equal at)
+    (ap (λ ps. finish evaluate c.args.nest (AppH false) (AllDone (terms_at at c.args.depth [] ps) c.args.left)) (sym c.in_ok-parts.ensures))
+    (c.finished.ensures.equal at)

@@ -31,4 +31,4 @@ returns-in_ok-value-in-None-clause-equal c = λ at.
 pub returns-in_ok-value-in-None-clause-known : goal.returns-in_ok-value-in-None-clause-known
 returns-in_ok-value-in-None-clause-known c =
     subst (IsKnown (below c.args.depth)) (sym c.in_ok-value-in-None.ensures)
-      (form_known c.evaluation_goes_on.ensures (below c.args.depth) (head_of c.args.shape) c.args.depth (seen_parts c.args.parts.items) c.requires.fits c.requires.known c.requires.stays c.in-None.ensures)
+    (form_known c.evaluation_goes_on.ensures (below c.args.depth) (head_of c.args.shape) c.args.depth (seen_parts c.args.parts.items) c.requires.fits c.requires.known c.requires.stays c.in-None.ensures)
