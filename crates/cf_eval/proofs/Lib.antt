@@ -11,3 +11,5 @@ pub mod Applied
 pub mod Binding
 pub mod Ranks
 pub mod Looked
+pub mod Placed
+pub mod Writes

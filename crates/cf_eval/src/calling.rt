@@ -1,6 +1,7 @@
 // The calls: an evaluation, and an evaluation that is read back.
 ghost use Rattle.std.specs.Prelude.{IfOk};
 ghost use Rattle.cf_term.specs.Evaluation.{Done, evaluate};
+ghost use Rattle.cf_term.specs.NormalForms.{then_read_back};
 ghost use Rattle.cf_term.specs.Same.{bare};
 ghost use Rattle.cf_term.specs.Substitution.{substitute};
 ghost use Rattle.cf_value.specs.Contexts.{AreValuesIn, IsClosed, IsValueIn};
@@ -8,8 +9,9 @@ ghost use Rattle.cf_value.specs.Stands.{env_at, in_context, term_at};
 ghost use Rattle.cf_value.specs.Val.{values_in};
 ghost use Rattle.cf_eval.specs.Answers.{Answers};
 
-use crate::answers::{Budget, EvalEnd, Evaluated};
+use crate::answers::{Budget, EvalEnd, Evaluated, Written};
 use crate::evaluating::value_of;
+use crate::reading::read_back;
 use cf_term::Term;
 use cf_value::Env;
 use std::alloc::Global;
@@ -34,4 +36,25 @@ pub fn evaluate(
         value,
         left: reached.left,
     })
+}
+
+/// The normal form of the term, with the values of its variables, in a context of `depth` variables: it is evaluated, and
+/// its value is written with the steps that are left.
+pub fn normalise(
+    alloc: Global,
+    env: &Env,
+    t: &Term,
+    depth: u32,
+    budget: Budget,
+) -> Result<Written, EvalEnd>
+    requires closed { IsClosed (values_in env.now) t.now }
+    requires values { AreValuesIn depth env.now }
+    ensures { Answers result (λ w. Done w.term w.left) (then_read_back budget.nest (evaluate budget.steps budget.nest (substitute (env_at (in_context depth) env.now) (bare t.now)))) }
+{
+    let reached = value_of(alloc, env, t, depth, budget.steps, budget.nest)?;
+    let rest = Budget {
+        steps: reached.left,
+        nest: budget.nest,
+    };
+    read_back(alloc, &reached.value, depth, rest)
 }
