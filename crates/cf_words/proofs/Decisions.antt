@@ -7,7 +7,7 @@ use Rattle.std.specs.Str.Parse.{AllDigits}
 abbrev pub Decided : Type 0 → Type 0
 Decided P = P ⊎ (P → ⊥)
 
-same_number : (x y : ℕ) → Decided (x ≡ y)
+pub same_number : (x y : ℕ) → Decided (x ≡ y)
 same_number zero zero = inl refl
 same_number zero (suc y) = inr (λ e. absurd (omega (arith, e)))
 same_number (suc x) zero = inr (λ e. absurd (omega (arith, e)))

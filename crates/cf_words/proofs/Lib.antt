@@ -4,3 +4,4 @@ pub mod Onward
 pub mod Stops
 pub mod Unique
 pub mod Total
+pub mod Ranges

@@ -1,5 +1,5 @@
 -- Commands and options by their words.
-use Rattle.std.proofs.Common.{◌≡◌, ◌≢◌, ◌⊎◌, inl, inr, ℕ, List, [], ◌∷◌, refl, sym, ap, ◌∙◌}
+use Rattle.std.proofs.Common.{◌≡◌, ◌≢◌, ◌⊎◌, inl, inr, ℕ, ℤ, List, [], ◌∷◌, refl, sym, ap, ◌∙◌, arith}
 use Rattle.std.specs.Prelude.{Some}
 use Rattle.std.specs.List.{find}
 use Rattle.std.specs.Str.{bytes_eq}
@@ -7,20 +7,21 @@ use Rattle.cf_words.specs.declared.grammar.CommandName.{CommandName}
 use Rattle.cf_words.specs.declared.grammar.CommandName.TheVariants as names
 use Rattle.cf_words.specs.declared.grammar.OptionName.{OptionName}
 use Rattle.cf_words.specs.declared.grammar.OptionName.TheVariants as options
-use Rattle.cf_words.specs.Lines.{command_text, option_text}
+use Rattle.cf_words.specs.Lines.{IsNumber, command_text, option_text}
 use Rattle.cf_words.proofs.Decisions.{Decided, same_text}
 
 abbrev commands : List CommandName
-commands = names.Core ∷ names.Build ∷ []
+commands = names.Core ∷ names.Build ∷ names.Run ∷ []
 
 abbrev all_options : List OptionName
-all_options = options.Steps ∷ options.Pages ∷ []
+all_options = options.Steps ∷ options.Pages ∷ options.Words ∷ options.Limit ∷ []
 
 -- ---- different ones have different words
 
 command_found : (c : CommandName) → find (λ d. bytes_eq (command_text c) (command_text d)) commands ≡ Some c
 command_found names.Core = refl
 command_found names.Build = refl
+command_found names.Run = refl
 
 pub command_one : (c d : CommandName) → command_text c ≡ command_text d → c ≡ d
 command_one c d e = let f : Some c ≡ Some d = sym (command_found c) ∙ ap (λ w. find (λ d. bytes_eq w (command_text d)) commands) e ∙ command_found d in cc
@@ -28,6 +29,8 @@ command_one c d e = let f : Some c ≡ Some d = sym (command_found c) ∙ ap (λ
 option_found : (o : OptionName) → find (λ p. bytes_eq (option_text o) (option_text p)) all_options ≡ Some o
 option_found options.Steps = refl
 option_found options.Pages = refl
+option_found options.Words = refl
+option_found options.Limit = refl
 
 pub option_one : (o p : OptionName) → option_text o ≡ option_text p → o ≡ p
 option_one o p e = let f : Some o ≡ Some p = sym (option_found o) ∙ ap (λ w. find (λ p. bytes_eq w (option_text p)) all_options) e ∙ option_found p in cc
@@ -50,6 +53,7 @@ one_or_none A text (x ∷ xs) word = from (same_text word (text x)) (one_or_none
 no_command : (word : List ℕ) → NoneOf command_text commands word → (c : CommandName) → word ≢ command_text c
 no_command word n names.Core = n.0
 no_command word n names.Build = n.1.0
+no_command word n names.Run = n.1.1.0
 
 pub named_command : (word : List ℕ) → ((c : CommandName) × (word ≡ command_text c)) ⊎ ((c : CommandName) → word ≢ command_text c)
 named_command word = elim (one_or_none CommandName command_text commands word) [ inl p ↦ inl p | inr n ↦ inr (no_command word n) ]
@@ -57,6 +61,16 @@ named_command word = elim (one_or_none CommandName command_text commands word) [
 no_option : (word : List ℕ) → NoneOf option_text all_options word → (o : OptionName) → word ≢ option_text o
 no_option word n options.Steps = n.0
 no_option word n options.Pages = n.1.0
+no_option word n options.Words = n.1.1.0
+no_option word n options.Limit = n.1.1.1.0
 
 pub named_option : (word : List ℕ) → ((o : OptionName) × (word ≡ option_text o)) ⊎ ((o : OptionName) → word ≢ option_text o)
 named_option word = elim (one_or_none OptionName option_text all_options word) [ inl p ↦ inl p | inr n ↦ inr (no_option word n) ]
+
+-- ---- an option's word is no number
+
+pub option_is_no_number : (o : OptionName) (z : ℤ) → IsNumber (option_text o) z → ⊥
+option_is_no_number options.Steps z n = let d = n.digits in absurd (omega (arith, d.1.0))
+option_is_no_number options.Pages z n = let d = n.digits in absurd (omega (arith, d.1.0))
+option_is_no_number options.Words z n = let d = n.digits in absurd (omega (arith, d.1.0))
+option_is_no_number options.Limit z n = let d = n.digits in absurd (omega (arith, d.1.0))

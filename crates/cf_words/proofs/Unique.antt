@@ -1,22 +1,25 @@
 -- Words have one answer, and only one.
-use Rattle.std.proofs.Common.{◌≡◌, ℕ, zero, suc, ◌<◌, ◌≤◌, List, [], ◌∷◌, ◌++◌, take, refl, sym, ap, ◌∙◌, subst, arith, append_assoc}
+use Rattle.std.proofs.Common.{◌≡◌, ℕ, zero, suc, ◌<◌, ◌≤◌, ℤ, List, [], ◌∷◌, ◌++◌, take, refl, sym, ap, ◌∙◌, subst, arith, append_assoc}
 use Rattle.std.specs.Prelude.{Some}
 use Rattle.cf_words.specs.declared.command.Command.{Command}
 use Rattle.cf_words.specs.declared.reading.Reading.{Reading}
 use Rattle.cf_words.specs.Lines.{IsLine, IsUsage, BeginsLine}
 use Rattle.cf_words.specs.Laws.{OneCommand, OneUsage}
-use Rattle.cf_words.proofs.Onward.{Rest, goes_on, goes_one, is_end}
+use Rattle.cf_words.specs.declared.reading.Step.{Step}
+use Rattle.cf_words.proofs.Onward.{Rest, goes_on, goes_one, is_end, with_step}
 use Rattle.cf_words.specs.declared.reading.Reading.TheVariants.{Start}
 
-one_rest : (s : Reading) (words : List (List ℕ)) (c d : Command) → Rest s words c → Rest s words d → c ≡ d
-one_rest s [] c d p q = let e : Some c ≡ Some d = sym (is_end s c p) ∙ is_end s d q in cc
-one_rest s (w ∷ ws) c d p q =
-    let a = goes_on s w ws c p in
-    let b = goes_on s w ws d q in
-    one_rest a.0 ws c d a.2 (subst (λ t. Rest t ws d) (goes_one s b.0 a.0 w b.1 a.1) b.2)
+one_rest : (s : Reading) (zs : List ℤ) (words : List (List ℕ)) (c d : Command) → Rest s zs words c → Rest s zs words d → c ≡ d
+one_rest s zs [] c d p q = let e : Some c ≡ Some d = sym (is_end s zs c p) ∙ is_end s zs d q in cc
+one_rest s zs (w ∷ ws) c d p q =
+    let a = goes_on s zs w ws c p in
+    let b = goes_on s zs w ws d q in
+    let r = subst (λ (t : Step). Rest t.after (with_step zs t) ws d) (goes_one s b.0 a.0 w b.1 a.1) b.2 in
+    let t = a.0 in
+    one_rest t.after (with_step zs t) ws c d a.2 r
 
 pub one_command : OneCommand
-one_command words c d p q = one_rest Start words c d p q
+one_command words c d p q = one_rest Start [] words c d (refl, p) (refl, q)
 
 take_apart : (i j : ℕ) (words : List (List ℕ)) → i ≤ j → (rest : List (List ℕ)) × (take i words ++ rest ≡ take j words)
 take_apart zero j words le = (take j words, refl)

@@ -1,9 +1,10 @@
 // The numbers that the options of a command line give.
-ghost use Rattle.std.specs.Prelude.{◌≡◌, ◌≤◌, is_some, unwrap_or};
-ghost use Rattle.cf_words.specs.Lines.{command, default, give, given, greatest, nothing};
+ghost use Rattle.std.specs.Prelude.{◌≡◌, ◌≤◌, is_some};
+ghost use Rattle.cf_words.specs.Lines.{command, give, given, greatest, nothing};
 
 use crate::command::Command;
 use crate::grammar::{CommandName, OptionName};
+use sqlite_items::Items;
 
 /// The numbers that are given for the options so far.
 #[derive(Clone, Copy, Debug, PartialEq, Eq)]
@@ -12,6 +13,10 @@ pub struct Given {
     pub steps: Option<u64>,
     /// For `--pages`.
     pub pages: Option<u32>,
+    /// For `--words`.
+    pub words: Option<u32>,
+    /// For `--limit`.
+    pub limit: Option<u64>,
 }
 
 impl Given {
@@ -22,6 +27,8 @@ impl Given {
         Given {
             steps: None,
             pages: None,
+            words: None,
+            limit: None,
         }
     }
 
@@ -32,6 +39,8 @@ impl Given {
         match option {
             OptionName::Steps => self.steps.is_some(),
             OptionName::Pages => self.pages.is_some(),
+            OptionName::Words => self.words.is_some(),
+            OptionName::Limit => self.limit.is_some(),
         }
     }
 
@@ -49,18 +58,33 @@ impl Given {
                 pages: Some(number as u32),
                 ..self
             },
+            OptionName::Words => Given {
+                words: Some(number as u32),
+                ..self
+            },
+            OptionName::Limit => Given {
+                limit: Some(number),
+                ..self
+            },
         }
     }
 
-    /// The command of this name, with these numbers and the defaults.
-    pub fn command(self, name: CommandName) -> Command
-        ensures { result ≡ command name self }
+    /// The command of this name, with these numbers and the defaults, and with these arguments where it takes any.
+    pub fn command(self, name: CommandName, args: Items<i64>) -> Command
+        ensures { result ≡ command name self args }
     {
         let steps = self.steps.unwrap_or(1_000_000);
-        let pages = self.pages.unwrap_or(16);
         match name {
             CommandName::Core => Command::Core { steps },
-            CommandName::Build => Command::Build { steps, pages },
+            CommandName::Build => Command::Build {
+                steps,
+                pages: self.pages.unwrap_or(16),
+            },
+            CommandName::Run => Command::Run {
+                words: self.words.unwrap_or(2_097_152),
+                limit: self.limit.unwrap_or(100_000_000),
+                args,
+            },
         }
     }
 }

@@ -1,6 +1,6 @@
 // The commands and their options, as a table.
 ghost use Rattle.std.specs.Prelude.{◌≡◌, ◌≢◌, MatchOption};
-ghost use Rattle.cf_words.specs.Lines.{command_text, option_text, takes, greatest};
+ghost use Rattle.cf_words.specs.Lines.{command_text, option_text, takes, takes_numbers, greatest};
 
 /// The name of a command.
 #[derive(Clone, Copy, Debug, PartialEq, Eq)]
@@ -9,6 +9,8 @@ pub enum CommandName {
     Core,
     /// `build`
     Build,
+    /// `run`
+    Run,
 }
 
 /// The name of an option.
@@ -18,6 +20,10 @@ pub enum OptionName {
     Steps,
     /// `--pages`
     Pages,
+    /// `--words`
+    Words,
+    /// `--limit`
+    Limit,
 }
 
 /// The command of this name.
@@ -28,6 +34,8 @@ pub fn command_named(word: &str) -> Option<CommandName>
         Some(CommandName::Core)
     } else if word == "build" {
         Some(CommandName::Build)
+    } else if word == "run" {
+        Some(CommandName::Run)
     } else {
         None
     }
@@ -41,6 +49,10 @@ pub fn option_named(word: &str) -> Option<OptionName>
         Some(OptionName::Steps)
     } else if word == "--pages" {
         Some(OptionName::Pages)
+    } else if word == "--words" {
+        Some(OptionName::Words)
+    } else if word == "--limit" {
+        Some(OptionName::Limit)
     } else {
         None
     }
@@ -53,7 +65,18 @@ impl CommandName {
     {
         match self {
             CommandName::Core => option == OptionName::Steps,
-            CommandName::Build => true,
+            CommandName::Build => option == OptionName::Steps || option == OptionName::Pages,
+            CommandName::Run => option == OptionName::Words || option == OptionName::Limit,
+        }
+    }
+
+    /// Whether numbers may stand behind the options of the command.
+    pub fn takes_numbers(self) -> bool
+        ensures { result ≡ takes_numbers self }
+    {
+        match self {
+            CommandName::Core | CommandName::Build => false,
+            CommandName::Run => true,
         }
     }
 }
@@ -66,6 +89,8 @@ impl OptionName {
         match self {
             OptionName::Steps => 1_000_000_000,
             OptionName::Pages => 1_024,
+            OptionName::Words => 16_777_216,
+            OptionName::Limit => 1_000_000_000_000,
         }
     }
 }

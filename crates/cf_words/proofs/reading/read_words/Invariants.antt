@@ -4,4 +4,4 @@ use Rattle.cf_words.proofs.Stops.{HasRead}
 use Rattle.cf_words.proofs.reading.read_words.Given as goal
 
 abbrev pub invariant-loop-i : goal.invariant-loop-i
-invariant-loop-i l = HasRead (map (λ w. string_bytes w) (take l.i l.words)) l.reading
+invariant-loop-i l = HasRead (map (λ w. string_bytes w) (take l.i l.words)) l.reading l.args
