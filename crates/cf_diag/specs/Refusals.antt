@@ -3,8 +3,12 @@ use Rattle.std.specs.Prelude.{◌++◌, Bool, List, [], ℕ, codes, decimal, fal
 use Rattle.cf_base.specs.declared.at.At.{At}
 use Rattle.cf_base.specs.declared.limit.Limit.{Limit}
 use Rattle.cf_base.specs.declared.limit.Limit.TheVariants as limit
+use Rattle.wb_decode.specs.declared.ends.What.{What}
+use Rattle.wb_decode.specs.declared.ends.What.TheVariants as what
+use Rattle.wb_valid.specs.declared.part.Part.{Part}
+use Rattle.wb_valid.specs.declared.part.Part.TheVariants as part
 use Rattle.cf_diag.specs.declared.refusal.Refusal.{Refusal}
-use Rattle.cf_diag.specs.declared.refusal.Refusal.TheVariants.{BadChar, Later, Literal, NoMemory, NotText, ReadFault, Syntax, TooLong, TooMany, TooNested, Twice, Unknown, Usage, WriteFault}
+use Rattle.cf_diag.specs.declared.refusal.Refusal.TheVariants.{Arity, BadChar, Invalid, Later, Literal, Malformed, NoMain, NoMemory, NotText, Outside, ReadFault, StackFull, StepLimit, Stuck, Syntax, TooLong, TooMany, TooMuchMemory, TooNested, Twice, Unknown, Usage, WriteFault}
 
 -- the text that a place lies in, where it is the prelude
 abbrev pub origin_text : Bool → List ℕ
@@ -23,6 +27,24 @@ limit_text limit.Constructors = codes "constructors"
 limit_text limit.Fields = codes "fields"
 limit_text limit.Arguments = codes "arguments"
 
+-- what stands outside the profile
+abbrev pub what_text : What → List ℕ
+what_text what.Import = codes "import"
+what_text what.Table = codes "table"
+what_text what.Start = codes "start"
+what_text what.Element = codes "element"
+what_text what.DataPart = codes "data"
+what_text what.Float = codes "float"
+
+-- a part of a module
+abbrev pub part_text : Part → List ℕ
+part_text (part.FuncType f) = codes "function type " ++ decimal f
+part_text part.Memories = codes "memories"
+part_text part.MemoryLimits = codes "limits"
+part_text (part.GlobalInit g) = codes "global " ++ decimal g
+part_text (part.ExportOf e) = codes "export " ++ decimal e
+part_text (part.Body f) = codes "body " ++ decimal f
+
 -- the words of a refusal
 abbrev pub words : Refusal → List ℕ
 words (Usage i) = codes "usage at word " ++ decimal i
@@ -37,6 +59,15 @@ words (Literal at) = codes "literal out of range at " ++ at_text at
 words (Unknown at) = codes "unknown name at " ++ at_text at
 words (Twice at) = codes "declared twice at " ++ at_text at
 words Later = codes "form not built yet"
+words (Malformed n) = codes "malformed at " ++ decimal n
+words (Outside n w) = codes "outside the profile at " ++ decimal n ++ codes ": " ++ what_text w
+words (Invalid p) = codes "invalid " ++ part_text p
+words (TooMuchMemory n) = codes "memory of " ++ decimal n ++ codes " pages"
+words NoMain = codes "no exported main"
+words (Arity given wanted) = codes "arity " ++ decimal given ++ codes ", wanted " ++ decimal wanted
+words (StepLimit n) = codes "step limit " ++ decimal n
+words (StackFull n) = codes "stack full at " ++ decimal n ++ codes " words"
+words Stuck = codes "stuck"
 words WriteFault = codes "write fault"
 words NoMemory = codes "no memory"
 

@@ -2,6 +2,7 @@
 #![tactic(auto)]
 
 mod laws;
+mod modules;
 mod places;
 mod refusal;
 #[cfg(test)]

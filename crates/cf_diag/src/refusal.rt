@@ -1,8 +1,11 @@
 // Why a command is refused.
 
+use crate::modules::{PartName, outside};
 use crate::places::{Offset, items};
 use cf_base::{At, Limit};
 use std::fmt;
+use wb_decode::What;
+use wb_valid::Part;
 
 /// Why a command was refused, in the order in which the causes are looked at. Places are offsets in bytes.
 ///
@@ -34,6 +37,25 @@ pub enum Refusal {
     Twice(At),
     /// The program has a form that is not built yet.
     Later,
+    /// The module is no bytes of the binary format: 0 where its header is wrong, else the offset of the first section that is
+    /// wrong, or the whole length.
+    Malformed(u32),
+    /// The module has something that is outside the profile, first in the section at this offset.
+    Outside(u32, What),
+    /// The module is not valid: the first part that is not.
+    Invalid(Part),
+    /// The module's memory begins with so many pages, which are too many.
+    TooMuchMemory(u32),
+    /// The module exports no function `main` of whole numbers to one.
+    NoMain,
+    /// So many arguments are given, and `main` takes so many.
+    Arity(u32, u32),
+    /// The run goes on after so many steps.
+    StepLimit(u64),
+    /// The run needs more than so many words on its stack.
+    StackFull(u32),
+    /// The run has no next step.
+    Stuck,
     /// A write of the output failed. What was taken before is a front of the output.
     WriteFault,
     /// Memory ran out.
@@ -62,6 +84,17 @@ impl fmt::Display for Refusal {
             Refusal::Unknown(at) => write!(f, "unknown name at {}", Offset(*at)),
             Refusal::Twice(at) => write!(f, "declared twice at {}", Offset(*at)),
             Refusal::Later => f.write_str("form not built yet"),
+            Refusal::Malformed(n) => write!(f, "malformed at {n}"),
+            Refusal::Outside(n, what) => {
+                write!(f, "outside the profile at {n}: {}", outside(*what))
+            }
+            Refusal::Invalid(part) => write!(f, "invalid {}", PartName(*part)),
+            Refusal::TooMuchMemory(n) => write!(f, "memory of {n} pages"),
+            Refusal::NoMain => f.write_str("no exported main"),
+            Refusal::Arity(given, wanted) => write!(f, "arity {given}, wanted {wanted}"),
+            Refusal::StepLimit(n) => write!(f, "step limit {n}"),
+            Refusal::StackFull(n) => write!(f, "stack full at {n} words"),
+            Refusal::Stuck => f.write_str("stuck"),
             Refusal::WriteFault => f.write_str("write fault"),
             Refusal::NoMemory => f.write_str("no memory"),
         }

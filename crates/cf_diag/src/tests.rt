@@ -4,6 +4,8 @@ use crate::text::{no_memory_text, refusal_text, write_fault_text};
 use cf_base::{At, Limit};
 use std::alloc::Global;
 use std::test::Fail;
+use wb_decode::What;
+use wb_valid::Part;
 
 // A place in the source, and one in the prelude.
 const SOURCE: At = At {
@@ -66,6 +68,78 @@ const ROWS: [(Refusal, &str); 20] = [
     (Refusal::NoMemory, "refused: no memory\n"),
 ];
 
+// Refusals of modules and of their runs.
+const MODULE_ROWS: [(Refusal, &str); 23] = [
+    (Refusal::Malformed(0), "refused: malformed at 0\n"),
+    (
+        Refusal::Malformed(4294967295),
+        "refused: malformed at 4294967295\n",
+    ),
+    (
+        Refusal::Outside(37, What::Import),
+        "refused: outside the profile at 37: import\n",
+    ),
+    (
+        Refusal::Outside(37, What::Table),
+        "refused: outside the profile at 37: table\n",
+    ),
+    (
+        Refusal::Outside(37, What::Start),
+        "refused: outside the profile at 37: start\n",
+    ),
+    (
+        Refusal::Outside(37, What::Element),
+        "refused: outside the profile at 37: element\n",
+    ),
+    (
+        Refusal::Outside(37, What::DataPart),
+        "refused: outside the profile at 37: data\n",
+    ),
+    (
+        Refusal::Outside(37, What::Float),
+        "refused: outside the profile at 37: float\n",
+    ),
+    (
+        Refusal::Invalid(Part::FuncType(3)),
+        "refused: invalid function type 3\n",
+    ),
+    (
+        Refusal::Invalid(Part::Memories),
+        "refused: invalid memories\n",
+    ),
+    (
+        Refusal::Invalid(Part::MemoryLimits),
+        "refused: invalid limits\n",
+    ),
+    (
+        Refusal::Invalid(Part::GlobalInit(3)),
+        "refused: invalid global 3\n",
+    ),
+    (
+        Refusal::Invalid(Part::ExportOf(3)),
+        "refused: invalid export 3\n",
+    ),
+    (Refusal::Invalid(Part::Body(0)), "refused: invalid body 0\n"),
+    (
+        Refusal::TooMuchMemory(1025),
+        "refused: memory of 1025 pages\n",
+    ),
+    (Refusal::NoMain, "refused: no exported main\n"),
+    (Refusal::Arity(1, 0), "refused: arity 1, wanted 0\n"),
+    (Refusal::Arity(10, 11), "refused: arity 10, wanted 11\n"),
+    (Refusal::StepLimit(1000), "refused: step limit 1000\n"),
+    (
+        Refusal::StepLimit(1000000000000),
+        "refused: step limit 1000000000000\n",
+    ),
+    (Refusal::StackFull(4), "refused: stack full at 4 words\n"),
+    (
+        Refusal::StackFull(16777216),
+        "refused: stack full at 16777216 words\n",
+    ),
+    (Refusal::Stuck, "refused: stuck\n"),
+];
+
 // The line of the refusal, as text.
 fn line(alloc: Global, r: &Refusal) -> Result<String, Fail> {
     let Ok(bytes) = refusal_text(alloc, r) else {
@@ -80,6 +154,15 @@ fn line(alloc: Global, r: &Refusal) -> Result<String, Fail> {
 #[test]
 fn lines(rt: HostRuntime) -> Result<(), Fail> {
     for (refusal, expected) in ROWS {
+        let text = line(rt.alloc(), &refusal)?;
+        assert_eq!(rt; text.as_str(), expected);
+    }
+    Ok(())
+}
+
+#[test]
+fn module_lines(rt: HostRuntime) -> Result<(), Fail> {
+    for (refusal, expected) in MODULE_ROWS {
         let text = line(rt.alloc(), &refusal)?;
         assert_eq!(rt; text.as_str(), expected);
     }
