@@ -4,3 +4,4 @@ pub mod Alike
 pub mod Valid
 pub mod Encodable
 pub mod Sums
+pub mod RunEnds
