@@ -4,6 +4,7 @@
 mod run;
 mod telling;
 mod top;
+mod writing;
 
 use cf_base::{StdSink, StdSource};
 use std::process::ExitCode;

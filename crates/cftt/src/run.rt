@@ -1,40 +1,29 @@
 // The top call.
-ghost use Rattle.std.specs.Prelude.{◌≡◌, ◌≤◌, IfOk, IfErr, OnOk, length, map};
+ghost use Rattle.std.specs.Prelude.{◌≡◌, IfOk, IfErr, OnOk, map};
 ghost use Rattle.std.specs.String.{string_bytes};
-ghost use Rattle.cftt.specs.Answers.{IsDone, Caused, Leaves, OnUsage, IsTold, Refuses, Writes, most_bytes, status_of, written};
+ghost use Rattle.cftt.specs.Answers.{IsDone, Caused, Leaves, OnUsage, IsTold, most_bytes, status_of};
 
 use crate::telling::told;
 use crate::top::Report;
+use crate::writing::answer;
 use cf_base::{ReadEnd, Sink, Source, read_all, write_all};
 use cf_diag::Refusal;
-use cf_driver::{built, core};
 use cf_words::{Command, WordsEnd, read_words};
 use std::alloc::Global;
 
 /// The most bytes of a source.
 const MOST_SOURCE: u64 = 1_048_576;
 
-/// A command that only writes.
-const WRITTEN: Report = Report { code: 0, calls: 0 };
+/// The most bytes of a module.
+const MOST_MODULE: u64 = 33_554_432;
 
 // The most bytes that the input of the command may have.
-fn most_bytes(command: Command) -> u64
-    ensures { result ≡ most_bytes command }
+fn most_bytes(command: &Command) -> u64
+    ensures { result ≡ most_bytes command.now }
 {
     match command {
         Command::Core { .. } | Command::Build { .. } => MOST_SOURCE,
-    }
-}
-
-// What the command writes for a source.
-fn output(alloc: Global, command: Command, source: &[u8]) -> Result<Vec<u8>, Refusal>
-    requires short { length source.now ≤ most_bytes command }
-    ensures writes { IfOk result (λ bytes. Writes command source.now written bytes.items) }
-    ensures refused { IfErr result (λ refusal. Refuses command source.now refusal) }
-{
-    match command {
-        Command::Core { .. } => core(alloc, source),
-        Command::Build { .. } => built(alloc, source),
+        Command::Run { .. } => MOST_MODULE,
     }
 }
 
@@ -56,19 +45,20 @@ fn answered<S: Source, O: Sink>(
         record { left = S.left input.new; read_faults = S.faults input.new; taken = O.taken out.new; write_faults = O.faults out.new } refusal) }
     ensures untouched { IfErr result (λ refusal. OnUsage refusal (input.new ≡ input.old)) }
 {
-    let command = match read_words(words) {
+    let command = match read_words(alloc, words) {
         Ok(command) => command,
         Err(WordsEnd::Usage(i)) => return Err(Refusal::Usage(i)),
+        Err(WordsEnd::NoMemory) => return Err(Refusal::NoMemory),
     };
-    let source = match read_all(alloc, input, most_bytes(command)) {
-        Ok(source) => source,
+    let bytes = match read_all(alloc, input, most_bytes(&command)) {
+        Ok(bytes) => bytes,
         Err(ReadEnd::Fault) => return Err(Refusal::ReadFault),
         Err(ReadEnd::TooLong) => return Err(Refusal::TooLong),
         Err(ReadEnd::NoMemory) => return Err(Refusal::NoMemory),
     };
-    let bytes = output(alloc, command, &source)?;
-    match write_all(out, &bytes) {
-        Ok(()) => Ok(WRITTEN),
+    let output = answer(alloc, &command, &bytes)?;
+    match write_all(out, &output.bytes) {
+        Ok(()) => Ok(output.report),
         Err(_) => Err(Refusal::WriteFault),
     }
 }

@@ -488,3 +488,5 @@ fn statuses(rt: HostRuntime) {
         assert_eq!(rt; status(&end), want);
     }
 }
+
+mod modules;
