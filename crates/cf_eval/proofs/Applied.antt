@@ -11,7 +11,7 @@ use Rattle.cf_term.specs.Substitution.{substitute, substitute_all}
 use Rattle.cf_value.specs.Heads.{head_of}
 use Rattle.cf_value.specs.declared.shapes.Shape.{Shape}
 use Rattle.cf_eval.specs.Answers.{Answers, AnswersAll}
-use Rattle.cf_eval.specs.Laws.{EvaluationGoesOn}
+use Rattle.cf_reduction.specs.Laws.{EvaluationGoesOn}
 use Rattle.cf_eval.specs.declared.answers.EvalEnd.{EvalEnd}
 use Rattle.cf_eval.specs.declared.answers.EvalEnd.TheVariants as end
 use Rattle.cf_eval.proofs.Marked.{bare_form}

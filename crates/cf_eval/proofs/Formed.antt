@@ -7,7 +7,7 @@ use Rattle.cf_value.specs.Heads.{Fits}
 use Rattle.cf_value.specs.Val.{Val, VParts, Vals, level, form, none, ready, frozen, parts_in}
 use Rattle.cf_value.specs.Stands.{term_at, terms_at, with_levels}
 use Rattle.cf_value.specs.Contexts.{IsKnown, AreKnown, AreKnownParts, or_levels}
-use Rattle.cf_eval.specs.Laws.{EvaluationGoesOn}
+use Rattle.cf_reduction.specs.Laws.{EvaluationGoesOn}
 use Rattle.cf_eval.specs.Redexes.{Goal, goal_at, redex, unquoted, ready_part, spliced_value}
 use Rattle.cf_eval.specs.Bulk.{bulk, part_bulk}
 use Rattle.cf_eval.proofs.Contracted.{shaped, one_ready, redex_fine, Fine, goals_at}

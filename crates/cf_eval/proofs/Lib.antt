@@ -1,7 +1,3 @@
-pub mod Unfolding
-pub mod Reached
-pub mod Renamed
-pub mod Settled
 pub mod Numbered
 pub mod Contracted
 pub mod Formed

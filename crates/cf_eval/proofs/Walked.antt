@@ -18,7 +18,7 @@ use Rattle.cf_eval.specs.Goals.{part_out, part_term}
 use Rattle.std.specs.Prelude.{Result, Ok, Err}
 use Rattle.cf_term.specs.Evaluation.{Spent, Deep}
 use Rattle.cf_eval.specs.Answers.{Answers, AnswersAll}
-use Rattle.cf_eval.specs.Laws.{EvaluationGoesOn}
+use Rattle.cf_reduction.specs.Laws.{EvaluationGoesOn}
 use Rattle.cf_eval.specs.declared.answers.EvalEnd.{EvalEnd}
 use Rattle.cf_eval.specs.declared.answers.EvalEnd.TheVariants as end
 

@@ -19,10 +19,10 @@ ghost use Rattle.cf_eval.specs.Goals.{goal_of, part_out, part_term};
 ghost use Rattle.cf_eval.specs.Redexes.{IsKnownGoal, IsKnownKept, body_at, goal_at, kept_at, kept_of, list_case, number_case, redex};
 
 use crate::answers::EvalEnd;
-use crate::laws::evaluation_goes_on;
 use crate::memory::{push, shared, sum, to_share};
 use crate::stepping::{Next, step, unquoted};
 use cf_base::NoMemory;
+use cf_reduction::evaluation_goes_on;
 use cf_term::{Part, Term, TermNode};
 use cf_value::{
     Env, Frozen, Shape, Value, ValueNode, ValuePart, argument_put_in, environment_under_binders,

@@ -5,7 +5,6 @@ mod answers;
 mod binders;
 mod calling;
 mod evaluating;
-mod laws;
 mod memory;
 mod reading;
 mod scoping;
@@ -13,8 +12,4 @@ mod stepping;
 
 pub use answers::{Budget, EvalEnd, Evaluated, Written};
 pub use calling::{evaluate, normalise};
-pub use laws::{
-    answers_are_reached, answers_are_values, evaluation_goes_on, evaluation_of_renamed,
-    steps_are_spent,
-};
 pub use reading::read_back;

@@ -1,7 +1,7 @@
 mod Answered
 mod Renamed
 mod Settled
-mod Spending
+mod Unfolding
 mod Steps
 mod Reached
 mod Written

@@ -3,9 +3,13 @@ use Rattle.std.specs.Prelude.{◌≡◌, ◌≤◌, ℕ, Option}
 use Rattle.cf_term.specs.Core.{Tm}
 use Rattle.cf_term.specs.Same.{bare}
 use Rattle.cf_term.specs.Substitution.{rename}
-use Rattle.cf_term.specs.Evaluation.{Out, Done, Spent, Deep, evaluate, IsValue}
+use Rattle.cf_term.specs.Evaluation.{Out, Done, Spent, Deep, evaluate_by, evaluate, IsValue}
 use Rattle.cf_term.specs.NormalForms.{read_back, normal_form}
 use Rattle.cf_term.specs.Reductions.{Reaches}
+
+-- what follows a step is evaluation itself, with the steps and the nest that are left
+abbrev pub EvaluationGoesOn : Type 0
+EvaluationGoesOn = (k d : ℕ) (t : Tm) → evaluate k d t ≡ evaluate_by evaluate k d t
 
 -- an answer with its value renamed
 abbrev pub renamed_out : (ℕ → ℕ) → Out → Out

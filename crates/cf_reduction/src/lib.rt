@@ -4,7 +4,12 @@
 //! is reached by them.
 #![tactic(auto)]
 
-ghost use Rattle.cf_reduction.specs.Laws.{EvaluationReaches, EvaluationRenames, EvaluationSpends, NormalFormReaches, ReadingReaches, ValuesStay};
+ghost use Rattle.cf_reduction.specs.Laws.{EvaluationGoesOn, EvaluationReaches, EvaluationRenames, EvaluationSpends, NormalFormReaches, ReadingReaches, ValuesStay};
+
+/// What follows a step is evaluation itself, with the steps and the nest that are left.
+pub fn evaluation_goes_on()
+    ensures { EvaluationGoesOn }
+{}
 
 /// Evaluation goes through a renaming: the same steps, and the renamed value.
 pub fn evaluation_renames()

@@ -1,5 +1,5 @@
-use Rattle.cf_reduction.proofs.Spending.{evaluation_spends}
+use Rattle.cf_reduction.proofs.Unfolding.{spent}
 use Rattle.cf_reduction.proofs.evaluation_spends.Goals as goal
 
 pub returns : goal.returns
-returns c = evaluation_spends
+returns c = spent

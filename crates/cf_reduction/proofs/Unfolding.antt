@@ -4,22 +4,22 @@ use Rattle.std.proofs.Common.{arith}
 use mathlib.Core.Path.{ap, sym, ◌∙◌, subst}
 use Rattle.cf_term.specs.Core.{Tm, var, node, Tms, nil, cons, Head, Part, parts, first_part, rest_parts}
 use Rattle.cf_term.specs.Evaluation.{Out, Done, Spent, Deep, Outs, AllDone, AllSpent, AllDeep, evaluate_by, evaluate_all_by, evaluate_within, evaluate, contract, formed, step, step_or, finish, before, and_then}
-use Rattle.cf_eval.specs.Laws.{EvaluationGoesOn, StepsAreSpent}
+use Rattle.cf_reduction.specs.Laws.{EvaluationGoesOn, EvaluationSpends}
 
 -- ---- at most as many steps are left
 
-abbrev pub AtMost : ℕ → Out → Type 0
+abbrev AtMost : ℕ → Out → Type 0
 AtMost k (Done v l) = l ≤ k
 AtMost k Spent = Unit {0}
 AtMost k Deep = Unit {0}
 
-abbrev pub AllAtMost : ℕ → Outs → Type 0
+abbrev AllAtMost : ℕ → Outs → Type 0
 AllAtMost k (AllDone vs l) = l ≤ k
 AllAtMost k AllSpent = Unit {0}
 AllAtMost k AllDeep = Unit {0}
 
 -- what goes on after a step makes no steps
-abbrev pub Saves : (ℕ → ℕ → Tm → Out) → Type 0
+abbrev Saves : (ℕ → ℕ → Tm → Out) → Type 0
 Saves f = (k d : ℕ) (t : Tm) → AtMost k (f k d t)
 
 more_most : (j k : ℕ) (o : Out) → j ≤ k → AtMost j o → AtMost k o
@@ -67,7 +67,7 @@ mutual
       (before_most k t (evaluate_all_by f j d (rest_parts ps) ts) (saves_all_by ts f s j k d (rest_parts ps) h))
       (then_most k (evaluate_by f j d t) (λ l. evaluate_all_by f l d (rest_parts ps) ts) (saves_by t f s j k d h) (λ l g. saves_all_by ts f s l k d (rest_parts ps) g))
 
-pub saves_within : (n : ℕ) → Saves (evaluate_within n)
+saves_within : (n : ℕ) → Saves (evaluate_within n)
 saves_within zero k d t = saves_by t (λ _ _ _. Spent) (λ _ _ _. tt) k k d (omega arith)
 saves_within (suc n) k d t = saves_by t (evaluate_within n) (saves_within n) k k d (omega arith)
 
@@ -127,11 +127,11 @@ goes_on zero d t = same_by t (λ _ _ _. Spent) evaluate (λ _ _ _. tt) 0 0 d (λ
 goes_on (suc k) d t =
     same_by t (evaluate_within k) evaluate (saves_within k) (suc k) (suc k) d (λ j e u l. room k j j e u (omega (arith, l)) (omega arith)) (omega arith)
 
-pub saves : Saves evaluate
+saves : Saves evaluate
 saves k d t = saves_within k k d t
 
 most_done : (k : ℕ) (o : Out) (v : Tm) (l : ℕ) → o ≡ Done v l → AtMost k o → l ≤ k
 most_done k o v l e h = subst (AtMost k) e h
 
-pub spent : StepsAreSpent
-spent k d l t v e = most_done k (evaluate k d t) v l e (saves k d t)
+pub spent : EvaluationSpends
+spent t k d v l e = most_done k (evaluate k d t) v l e (saves k d t)
