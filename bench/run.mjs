@@ -11,10 +11,10 @@ const folder = mkdtempSync(`${tmpdir()}/run-`);
 const file = `${folder}/m.wasm`;
 const hasWabt = spawnSync("wasm-interp", ["--version"]).status === 0;
 
-// A module whose `main` takes a number and has this body, with a memory of one page.
+// A module whose `main` takes a number and has this body, with a memory of one page; or one that exports a call of it with a number.
 function module(locals, code) {
   const body = [...locals, ...code, 0x0b];
-  return moduleWith([0x01, 0x60, 0x01, 0x7e, 0x01, 0x7e], 1, [[...unsigned(body.length), ...body]], [0x01, 0x00, 0x01], null);
+  return (called) => moduleWith([0x60, 0x01, 0x7e, 0x01, 0x7e], [[...unsigned(body.length), ...body]], [0x01, 0x00, 0x01], null, called);
 }
 
 // Counts local 0 down, and goes on with the loop around where it is not 0.
@@ -74,9 +74,10 @@ function stepsOf(name, bytes, number) {
   return known[number];
 }
 
-for (const [name, bytes, number] of [["loop", loop, turns], ["calls", calls, depth(turns / 10)], ["memory", memory, turns]]) {
+for (const [name, make, number] of [["loop", loop, turns], ["calls", calls, depth(turns / 10)], ["memory", memory, turns]]) {
+  const bytes = make(null);
   if (!WebAssembly.validate(bytes)) throw new Error(`${name} is not valid`);
-  writeFileSync(file, bytes);
+  writeFileSync(file, make([number]));
   const count = stepsOf(name, bytes, number);
   const [own, answer] = seconds(() => run(bytes, number, 1e12));
   const wanted = new WebAssembly.Instance(new WebAssembly.Module(bytes)).exports.main;
@@ -84,7 +85,8 @@ for (const [name, bytes, number] of [["loop", loop, turns], ["calls", calls, dep
   if (answer.stdout !== `returned ${value}\n`) throw new Error(`${name}: ${answer.stdout}${answer.stderr}, and by node ${value}`);
   const told = [`${name} ${number}: ${count} steps`, `cftt ${own.toFixed(1)} s, ${(count / own / 1e6).toFixed(1)} million steps a second`];
   if (hasWabt) {
-    const [wabt] = seconds(() => spawnSync("wasm-interp", [file, "-r", "main", "-a", `i64:${number}`]));
+    const [wabt, run] = seconds(() => spawnSync("wasm-interp", [file, "--run-all-exports"], { encoding: "utf8" }));
+    if (!run.stdout.trim().endsWith(`=> i64:${BigInt.asUintN(64, value)}`)) throw new Error(`${name}: ${run.stdout}${run.stderr}, and by node ${value}`);
     told.push(`wasm-interp ${wabt.toFixed(1)} s, ${(count / wabt / 1e6).toFixed(1)}`);
   }
   told.push(`node ${byNode.toFixed(2)} s`);

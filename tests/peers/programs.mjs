@@ -117,7 +117,7 @@ function section(id, contents) {
 }
 
 // A module whose functions are all (i64, i64) -> i64 and call only those behind them; `main` is the first. It has a memory of one page.
-export function programOf(seed, functions = 3) {
+export function programOf(seed, functions = 3, called = null) {
   const next = numbers(seed);
   const bodies = Array.from({ length: functions }, (_, func) => {
     const body = new Body(next, func, functions);
@@ -125,20 +125,24 @@ export function programOf(seed, functions = 3) {
     const code = [...locals, ...body.statements(3, 5), ...body.value(i64, 4), 0x0b];
     return [...unsigned(code.length), ...code];
   });
-  const types = [0x01, 0x60, 0x02, i64, i64, 0x01, i64];
-  return moduleWith(types, functions, bodies, [0x01, 0x00, 0x01], [0x01, i64, 0x01, 0x42, ...signed(BigInt(next(5000)) - 2500n), 0x0b]);
+  const type = [0x60, 0x02, i64, i64, 0x01, i64];
+  return moduleWith(type, bodies, [0x01, 0x00, 0x01], [0x01, i64, 0x01, 0x42, ...signed(BigInt(next(5000)) - 2500n), 0x0b], called);
 }
 
-// The module with these sections; its first function is `main`.
-export function moduleWith(types, functions, bodies, memories, globals) {
-  const main = [0x01, 0x04, ...Buffer.from("main"), 0x00, 0x00];
+// The module with these functions, all of this type; the first is exported as `main`. Where arguments are given, a function that calls it
+// with them is exported in its place.
+export function moduleWith(type, bodies, memories, globals, called = null) {
+  const count = bodies.length;
+  const call = called === null ? [] : [0x00, ...called.flatMap((z) => [0x42, ...signed(BigInt(z))]), 0x10, 0x00, 0x0b];
+  const more = called === null ? 0 : 1;
+  const all = called === null ? bodies : [...bodies, [...unsigned(call.length), ...call]];
   return Uint8Array.from([
     0x00, 0x61, 0x73, 0x6d, 0x01, 0x00, 0x00, 0x00,
-    ...section(1, types),
-    ...section(3, [...unsigned(functions), ...Array.from({ length: functions }, () => 0)]),
-    ...(memories === null ? [] : section(5, memories)),
+    ...section(1, [...unsigned(1 + more), ...type, ...(more === 0 ? [] : [0x60, 0x00, 0x01, i64])]),
+    ...section(3, [...unsigned(count + more), ...bodies.map(() => 0), ...(more === 0 ? [] : [0x01])]),
+    ...section(5, memories),
     ...(globals === null ? [] : section(6, globals)),
-    ...section(7, main),
-    ...section(10, [...unsigned(functions), ...bodies.flat()]),
+    ...section(7, [0x01, 0x04, ...Buffer.from("main"), 0x00, ...unsigned(more === 0 ? 0 : count)]),
+    ...section(10, [...unsigned(count + more), ...all.flat()]),
   ]);
 }
