@@ -1,3 +1,4 @@
+mod counts;
 mod sources;
 
 use super::*;
