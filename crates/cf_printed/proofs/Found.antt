@@ -20,7 +20,8 @@ here p x xs e =
     let k : position_or_len p (x ∷ xs) ≡ 0 = ap (λ b. cond (not b) (1 + position_or_len p xs) 0) e in
     ap (λ n. cond (nat_lt n (length (x ∷ xs))) (Some n) None) k ∙ ap (λ b. cond b (Some 0) None) (lt-ltb 0 (length (x ∷ xs)) (omega arith))
 
-found_at : (n l i : ℕ) → cond (nat_lt n l) (Some n) None ≡ Some i → (n < l) × (n ≡ i)
+-- where a search ends
+pub found_at : (n l i : ℕ) → cond (nat_lt n l) (Some n) None ≡ Some i → (n < l) × (n ≡ i)
 found_at n l i e = by_test (nat_lt n l) refl e
   where
     by_test : (b : Bool) → nat_lt n l ≡ b → cond b (Some n) None ≡ Some i → (n < l) × (n ≡ i)

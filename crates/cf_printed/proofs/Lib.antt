@@ -23,3 +23,7 @@ pub mod Programs
 pub mod ReadBack
 pub mod Only
 pub mod Examples
+pub mod Written
+pub mod Heads
+pub mod Inside
+pub mod Scoping
