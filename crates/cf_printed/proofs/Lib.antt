@@ -27,3 +27,7 @@ pub mod Written
 pub mod Heads
 pub mod Inside
 pub mod Scoping
+pub mod Meanings
+pub mod Acting
+pub mod Walked
+pub mod Texts

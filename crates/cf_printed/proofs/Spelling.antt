@@ -17,7 +17,7 @@ use Rattle.cf_printed.proofs.Deriving.{Spell, token_at}
 use Rattle.cf_printed.proofs.Deriving as grammar
 
 -- a part of a text
-slice_mid : (pre x post : List ℕ) (n : ℕ) → length pre ≡ n → slice_range (pre ++ (x ++ post)) n (n + length x) ≡ x
+pub slice_mid : (pre x post : List ℕ) (n : ℕ) → length pre ≡ n → slice_range (pre ++ (x ++ post)) n (n + length x) ≡ x
 slice_mid pre x post n e =
     let k : (n + length x) - n ≡ length x = omega arith in
     (λ i. take (k i) (drop_at pre (x ++ post) n e i)) ∙ take_at x post (length x) refl
