@@ -31,3 +31,4 @@ pub mod Meanings
 pub mod Acting
 pub mod Walked
 pub mod Texts
+pub mod Cores

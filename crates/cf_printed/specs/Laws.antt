@@ -1,5 +1,5 @@
 -- Laws of reading what is printed.
-use Rattle.std.specs.Prelude.{◌≡◌, ℕ, true, false, IsTrue, List, Ok}
+use Rattle.std.specs.Prelude.{◌≡◌, ℕ, ◌≤◌, Bool, true, false, IsTrue, List, length, Ok}
 use Rattle.cf_lex.specs.Lexed.{IsLexed, Lexed, TokenList}
 use Rattle.cf_tree.specs.Tree.{Program, is_explicit}
 use Rattle.cf_rules.specs.Programs.{Declaration}
@@ -33,3 +33,7 @@ ReadsBack = (ds : List Declaration) → AllScoped start ds → (l : TokenList) �
 -- whatever the text of a core reads as, limits left aside, is an explicit program with the same core, marks and `implicit` flags aside
 abbrev pub ReadsOnly : Type 0
 ReadsOnly = (ds : List Declaration) → AllScoped start ds → (l : TokenList) → Lexed (core_text ds) (Ok l) → (p : Program) → ReadsUnlimited false (tokens_of l) p → (is_explicit p ≡ true) × IsCoreOf p (plain_program ds)
+
+-- the core of an explicit source, which has at most 2 ^ 20 bytes, is such a program as can be printed
+abbrev pub CoresAreScoped : Type 0
+CoresAreScoped = (bytes : List ℕ) (l : TokenList) (prelude : Bool) (p : Program) (ds : List Declaration) → length bytes ≤ 1048576 → Lexed bytes (Ok l) → Reads prelude l p → is_explicit p ≡ true → IsCoreOf p ds → AllScoped start ds

@@ -1,6 +1,6 @@
 //! Laws of reading what is printed, each as the contract of a function that does nothing.
 
-ghost use Rattle.cf_printed.specs.Laws.{ReadsBack, ReadsOnly, TokensArePieces};
+ghost use Rattle.cf_printed.specs.Laws.{CoresAreScoped, ReadsBack, ReadsOnly, TokensArePieces};
 
 use cf_lex::lexes_one;
 use cf_parse::reads_one;
@@ -22,3 +22,8 @@ pub fn reads_only()
     lexes_one();
     reads_one();
 }
+
+/// The core of an explicit source of at most 1048576 bytes is such a program as can be printed.
+pub fn cores_are_scoped()
+    ensures { CoresAreScoped }
+{}
