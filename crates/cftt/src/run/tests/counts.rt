@@ -26,12 +26,11 @@ fn ends(rt: &HostRuntime, module: &[u8], limit: u32, words: u32, line: &str) -> 
     let words = format!(in rt.alloc(); "{words}")?;
     let options = ["run", "--limit", limit.as_str(), "--words", words.as_str()];
     let seen = run(rt, &options, module, &SOUND)?;
-    let text = if seen.end.is_ok() {
-        &seen.written
+    if seen.end.is_ok() {
+        Ok(seen.written.as_slice() == line.as_bytes())
     } else {
-        &seen.told
-    };
-    Ok(text.as_slice() == line.as_bytes())
+        Ok(seen.told.as_slice() == line.as_bytes())
+    }
 }
 
 // Whether the body ends with this line with so many steps and words, and with fewer of either does not.

@@ -44,15 +44,15 @@ fn expect(
     code: u8,
 ) -> Result<(), Fail> {
     let seen = run(rt, words, input, &SOUND)?;
-    let (text, other) = match seen.end {
-        Ok(_) => (&seen.written, &seen.told),
-        Err(_) => (&seen.told, &seen.written),
+    let wanted = line.as_bytes();
+    let is_so = if seen.end.is_ok() {
+        let done = seen.end == Ok(Report { code, calls: 0 });
+        done && seen.written.as_slice() == wanted && seen.told.is_empty()
+    } else {
+        let refused = status(&seen.end) == code;
+        refused && seen.told.as_slice() == wanted && seen.written.is_empty()
     };
-    let is_so = match seen.end {
-        Ok(report) => report == Report { code, calls: 0 },
-        Err(_) => status(&seen.end) == code,
-    };
-    if is_so && text.as_slice() == line.as_bytes() && other.is_empty() {
+    if is_so {
         Ok(())
     } else {
         Err(Fail::from(line))
