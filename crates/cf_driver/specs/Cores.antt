@@ -1,6 +1,9 @@
 -- What the core of a source is as text, and why a source has none.
-use Rattle.std.specs.Prelude.{◌≡◌, ℕ, true, false, List}
+use Rattle.std.specs.Prelude.{◌≡◌, ◌≤◌, ℕ, true, false, List, length}
 use Rattle.cf_core_text.specs.Lines.{core_text}
+use Rattle.cf_lex.specs.Lexed.{TokenList}
+use Rattle.cf_printed.specs.Laws.{ReadsAs as PrintedReadsAs}
+use Rattle.cf_printed.specs.Plain.{plain_program}
 use Rattle.cf_diag.specs.declared.refusal.Refusal.{Refusal}
 use Rattle.cf_diag.specs.declared.refusal.Refusal.TheVariants.{Unknown, Twice, Later}
 use Rattle.cf_elab.specs.Core.{IsCoreOf}
@@ -11,7 +14,20 @@ use Rattle.cf_rules.specs.Programs.{Declaration}
 use Rattle.cf_tree.specs.Tree.{Program, is_explicit}
 use Rattle.cf_driver.specs.Sources.{ReadsAs, IsUnread}
 
--- the source reads as an explicit program, and the bytes are the text of its core
+-- the text of a core reads as an explicit program, within the limits where no phrase of the text passes one, and that
+-- program has the same core, marks and `implicit` flags aside
+pub record IsReadBack (core : List Declaration) : Type 0 where
+  pub tokens : TokenList
+  pub program : Program
+  pub reads : PrintedReadsAs (core_text core) tokens program
+  pub explicit : is_explicit program ≡ true
+  pub same : IsCoreOf program (plain_program core)
+
+-- the core of a source is read back
+abbrev pub CoreReadsBack : (source : List ℕ) → Program → List Declaration → Type 0
+CoreReadsBack source p core = ReadsAs source p → is_explicit p ≡ true → IsCoreOf p core → IsReadBack core
+
+-- the source reads as an explicit program, and the bytes are the text of its core, which reads back
 pub record CoreFrom (source bytes : List ℕ) : Type 0 where
   pub program : Program
   pub read : ReadsAs source program
@@ -19,6 +35,7 @@ pub record CoreFrom (source bytes : List ℕ) : Type 0 where
   pub core : List Declaration
   pub is_core : IsCoreOf program core
   pub text : bytes ≡ core_text core
+  pub back : IsReadBack core
 
 -- the source reads as a program that is not explicit
 pub record IsNotExplicit (source : List ℕ) : Type 0 where

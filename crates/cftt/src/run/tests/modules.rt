@@ -52,11 +52,7 @@ fn expect(
         let refused = status(&seen.end) == code;
         refused && seen.told.as_slice() == wanted && seen.written.is_empty()
     };
-    if is_so {
-        Ok(())
-    } else {
-        Err(Fail::from(line))
-    }
+    if is_so { Ok(()) } else { Err(Fail::from(line)) }
 }
 
 #[test]
