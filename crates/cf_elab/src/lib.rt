@@ -9,6 +9,8 @@ mod locals;
 mod numbers;
 mod resolving;
 mod scope;
+#[cfg(test)]
+mod tests;
 
 pub use declaring::direct;
 pub use ends::NameEnd;

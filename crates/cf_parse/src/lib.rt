@@ -17,6 +17,8 @@ mod parts;
 mod source;
 mod taking;
 mod terms;
+#[cfg(test)]
+mod tests;
 mod values;
 mod words;
 

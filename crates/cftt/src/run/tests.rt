@@ -1,6 +1,3 @@
-mod counts;
-mod sources;
-
 use super::*;
 use cf_base::{At, MemSink, MemSource};
 use std::test::Fail;
@@ -489,5 +486,3 @@ fn statuses(rt: HostRuntime) {
         assert_eq!(rt; status(&end), want);
     }
 }
-
-mod modules;
