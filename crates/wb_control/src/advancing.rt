@@ -37,6 +37,7 @@ fn is_control(instr: &Instr) -> bool
 
 /// Carries out an instruction that is no control instruction, which stands before `next`.
 #[tactic(auto, using(crate::proofs::Advanced::is_straight))]
+#[inline(always)]
 fn straight(run: &mut Run, instr: &Instr, next: usize) -> Flow
     requires fits { Fits run.old }
     requires straight { is_control instr.now ≡ false }
@@ -56,6 +57,7 @@ fn straight(run: &mut Run, instr: &Instr, next: usize) -> Flow
 }
 
 /// Makes one step of a run whose jumps are known, at an instruction that is no constant.
+#[inline(always)]
 pub fn advance(run: &mut Run, m: &Module, jumps: &[Items<Jump>]) -> Flow
     requires fits { Fits run.old }
     requires settled { IsSettled m.now run.old }

@@ -103,6 +103,7 @@ fn branch_by(run: &mut Run, labels: &[u32], last: u32) -> Flow
 }
 
 /// Carries out a control instruction, which stands before `next`.
+#[inline(always)]
 pub(crate) fn control(
     run: &mut Run,
     m: &Module,

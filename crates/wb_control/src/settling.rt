@@ -26,6 +26,7 @@ pub fn constant_word(instr: &Instr) -> Option<Word>
 }
 
 /// Puts the constants from the place of a run on, in the body of its function; says whether there was room for them.
+#[inline(always)]
 fn put_constants(run: &mut Run, body: &[Instr]) -> bool
     requires { Fits run.old }
     ensures settles { (m : TheModule) (c : Config) → HasBody m run.old body.now → Stands m run.old c → Settles m c result run.old run.new }
@@ -48,6 +49,7 @@ fn put_constants(run: &mut Run, body: &[Instr]) -> bool
 }
 
 /// Puts the constants at the place of a run, which are values; says whether there was room for them.
+#[inline(always)]
 pub fn settle(run: &mut Run, m: &Module) -> bool
     requires { Fits run.old }
     ensures settles { (c : Config) → Stands m.now run.old c → Settles m.now c result run.old run.new }

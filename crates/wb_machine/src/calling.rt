@@ -29,6 +29,7 @@ fn returned(word: Option<Word>) -> MachineEnd
 }
 
 /// Makes a step; says how the run ends, where it does not go on.
+#[inline(always)]
 fn step(run: &mut Run, m: &Module, jumps: &[Items<Jump>]) -> Option<MachineEnd>
     requires { Fits run.old }
     ensures step { (c : Config) → AllNested m.now → AllLead m.now jumps.now → Stands m.now run.old c → StepsOn m.now c result run.old run.new }

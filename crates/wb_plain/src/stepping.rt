@@ -15,6 +15,7 @@ use wb_state::{State, Word};
 use wb_syntax::Instr;
 
 /// Carries out an instruction.
+#[inline(always)]
 fn carry_out(state: &mut State, instr: &Instr) -> Outcome
     ensures { Ends result (effect instr.now state.old) state.old state.new }
 {
@@ -43,6 +44,7 @@ fn carry_out(state: &mut State, instr: &Instr) -> Outcome
 /// Carries out an instruction that is no jump, return or call.
 ///
 /// Of `block`, `loop`, `if`, `else` and `end`, which stand in nested code as its own forms, the definition has no step.
+#[inline(always)]
 pub fn step(state: &mut State, instr: &Instr) -> Outcome
     requires { IsStraight instr.now }
     ensures follows { (m : Module) (c : Config) (rest : Code) → Follows result c rest (step_of m c rest instr.now state.old) state.old state.new }
