@@ -1,3 +1,7 @@
+mod counts;
+mod modules;
+mod sources;
+
 use super::*;
 use cf_base::{At, MemSink, MemSource};
 use std::test::Fail;
