@@ -9,8 +9,6 @@ mod locals;
 mod numbers;
 mod resolving;
 mod scope;
-#[cfg(test)]
-mod tests;
 
 pub use declaring::direct;
 pub use ends::NameEnd;

@@ -17,8 +17,6 @@ mod parts;
 mod source;
 mod taking;
 mod terms;
-#[cfg(test)]
-mod tests;
 mod values;
 mod words;
 
