@@ -1,5 +1,6 @@
 mod counts;
 mod modules;
+mod nested;
 mod sources;
 
 use super::*;
