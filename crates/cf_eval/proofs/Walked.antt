@@ -67,7 +67,7 @@ not_past ps nil i h s = omega arith
 not_past ps (cons t ts) zero h s = s
 not_past ps (cons t ts) (suc i) h s = not_past (rest_parts ps) ts i (omega arith) s
 
-after_end : (ts : Tms) (i : ℕ) → length_of ts ≤ i → after i ts ≡ nil
+pub after_end : (ts : Tms) (i : ℕ) → length_of ts ≤ i → after i ts ≡ nil
 after_end nil zero h = refl
 after_end nil (suc i) h = refl
 after_end (cons t ts) zero h = absurd (omega arith)
