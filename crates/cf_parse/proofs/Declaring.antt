@@ -6,8 +6,9 @@ use Rattle.cf_tree.specs.declared.decls.CtorTree as ctors
 use Rattle.cf_tree.specs.declared.decls.Decl.{Decl}
 use Rattle.cf_tree.specs.Tree.{DataD, MetaD, ObjectD, Name, Tree}
 use Rattle.cf_tree.specs.View.{ctors_of, decls_of}
-use Rattle.cf_parse.proofs.Names.{ctors_listed, decls_listed, name_is, terms_listed}
-use Rattle.cf_parse.proofs.Popping.{joined}
+use Rattle.cf_parse.proofs.Names.{ctors_listed, decls_listed}
+use Rattle.cf_parse.proofs.Reducing.{of_five, of_four, of_three, of_two}
+use Rattle.cf_parse.proofs.Taken.{named_at, terms_listed}
 use Rattle.cf_parse.specs.Evaluation.{first_token, firsts}
 use Rattle.cf_parse.specs.Kinds as kind
 use Rattle.cf_parse.specs.Kinds.{AllFit, Fits}
@@ -17,27 +18,19 @@ use Rattle.cf_parse.specs.Standing.{IsName, IsPlace}
 use Rattle.cf_parse.specs.Tokens.{Token}
 use Rattle.cf_parse.specs.Values.{Taken, ctor_sem, decl_sem, listed, term_of}
 
+-- a stack, its top put otherwise, and what is behind it
+joined : {a b xs : List Sem} {v x : Sem} → a ≡ v ∷ b → v ≡ x → b ≡ xs → a ≡ x ∷ xs
+joined e q r = e ∙ (λ i. q i ∷ r i)
+
 -- programs
 pub explicit_put : {a b c e f : List Sem} {u v w : Sem} (p : At) (ds gs : List Decl) → AllFit (kind.Token ∷ kind.Token ∷ kind.Many kind.Decl ∷ []) a → Taken kind.Token a u b → Taken kind.Token b v c → Taken (kind.Many kind.Decl) c w e → (Fits (kind.Many kind.Decl) w → w ≡ listed (map decl_sem (reverse ds))) → gs ≡ reverse ds → f ≡ a_program true false (decls_of gs) ∷ e → f ≡ meant.after_explicit p (firsts 3 a) ∷ drop 3 a
-explicit_put {e = e} p ds gs h q r t g o n =
-    let j = q _ h in
-    let k = r _ j.1.1 in
-    let l = t _ k.1.1 in
-    n ∙ ap (λ d. a_program true false d ∷ e) (ap decls_of o ∙ sym (decls_listed (reverse ds))) ∙ ap (λ m. meant.after_explicit p (firsts 3 m) ∷ drop 3 m) (sym (joined j.0 refl (joined k.0 refl (joined l.0 (g l.1.0) refl))))
+explicit_put p ds gs h q r t g o n = of_three meant.after_explicit p h q r t (λ _. refl) (λ _. refl) g n (ap (a_program true false) (ap decls_of o ∙ sym (decls_listed (reverse ds))))
 
 pub prelude_put : {z a b c e f : List Sem} {y u v w : Sem} (p : At) (ds gs : List Decl) → AllFit (kind.Token ∷ kind.Token ∷ kind.Token ∷ kind.Many kind.Decl ∷ []) z → Taken kind.Token z y a → Taken kind.Token a u b → Taken kind.Token b v c → Taken (kind.Many kind.Decl) c w e → (Fits (kind.Many kind.Decl) w → w ≡ listed (map decl_sem (reverse ds))) → gs ≡ reverse ds → f ≡ a_program false true (decls_of gs) ∷ e → f ≡ meant.after_use p (firsts 4 z) ∷ drop 4 z
-prelude_put {e = e} p ds gs h x q r t g o n =
-    let i = x _ h in
-    let j = q _ i.1.1 in
-    let k = r _ j.1.1 in
-    let l = t _ k.1.1 in
-    n ∙ ap (λ d. a_program false true d ∷ e) (ap decls_of o ∙ sym (decls_listed (reverse ds))) ∙ ap (λ m. meant.after_use p (firsts 4 m) ∷ drop 4 m) (sym (joined i.0 refl (joined j.0 refl (joined k.0 refl (joined l.0 (g l.1.0) refl)))))
+prelude_put p ds gs h x q r t g o n = of_four meant.after_use p h x q r t (λ _. refl) (λ _. refl) (λ _. refl) g n (ap (a_program false true) (ap decls_of o ∙ sym (decls_listed (reverse ds))))
 
 pub plain_put : {a b c f : List Sem} {u v : Sem} (p : At) (d : Decl) (ds es gs : List Decl) → AllFit (kind.Decl ∷ kind.Many kind.Decl ∷ []) a → Taken kind.Decl a u b → Taken (kind.Many kind.Decl) b v c → u ≡ decl_sem d → (Fits (kind.Many kind.Decl) v → v ≡ listed (map decl_sem (reverse ds))) → es ≡ ds ++ d ∷ [] → gs ≡ reverse es → f ≡ a_program false false (decls_of gs) ∷ c → f ≡ meant.without_head p (firsts 2 a) ∷ drop 2 a
-plain_put {c = c} p d ds es gs h q r t g o x n =
-    let j = q _ h in
-    let k = r _ j.1.1 in
-    n ∙ ap (λ l. a_program false false l ∷ c) (ap decls_of (x ∙ ap reverse o ∙ reverse-append ds (d ∷ [])) ∙ sym (decls_listed (d ∷ reverse ds))) ∙ ap (λ m. meant.without_head p (firsts 2 m) ∷ drop 2 m) (sym (joined j.0 t (joined k.0 (g k.1.0) refl)))
+plain_put p d ds es gs h q r t g o x n = of_two meant.without_head p h q r (λ _. t) g n (ap (a_program false false) (ap decls_of (x ∙ ap reverse o ∙ reverse-append ds (d ∷ [])) ∙ sym (decls_listed (d ∷ reverse ds))))
 
 -- declarations
 pub data_put : {a b c d e f g o : List Sem} {t u v w x y name names cs made : Sem} (p : At) → AllFit (kind.Token ∷ kind.Name ∷ kind.Many kind.Name ∷ kind.Token ∷ kind.Many kind.Ctor ∷ kind.Token ∷ []) a → Taken kind.Token a t b → Taken kind.Name b u c → Taken (kind.Many kind.Name) c v d → Taken kind.Token d w e → Taken (kind.Many kind.Ctor) e x f → Taken kind.Token f y g → (Fits kind.Name u → u ≡ name) → (Fits (kind.Many kind.Name) v → v ≡ names) → (Fits (kind.Many kind.Ctor) x → x ≡ cs) → ((q : At) (k l m : Sem) → Fits kind.Name name → Fits (kind.Many kind.Name) names → made ≡ meant.data_decl q (k ∷ name ∷ names ∷ l ∷ cs ∷ m ∷ [])) → o ≡ made ∷ g → o ≡ meant.data_decl p (firsts 6 a) ∷ drop 6 a
@@ -76,13 +69,7 @@ object_put {h = h} {u = u} {w = w} {y = y} p fits i2 i3 i4 i5 i6 i7 n ty bo m q 
     q ∙ ap (λ z. z ∷ h) (m p u w y (subst (Fits kind.Name) e2 j2.1.0)) ∙ ap (λ z. meant.object_decl p (firsts 6 z) ∷ drop 6 z) (sym (joined j2.0 e2 (joined j3.0 refl (joined j4.0 (ty j4.1.0) (joined j5.0 refl (joined j6.0 (bo j6.1.0) (joined j7.0 refl refl)))))))
 
 pub parameter_put : {a b c d e f o : List Sem} {t u v w x name : Sem} (p : At) → AllFit (kind.Token ∷ kind.Name ∷ kind.Token ∷ kind.Word 0 ∷ kind.Token ∷ []) a → Taken kind.Token a t b → Taken kind.Name b u c → Taken kind.Token c v d → Taken (kind.Word 0) d w e → Taken kind.Token e x f → (Fits kind.Name u → u ≡ name) → o ≡ name ∷ f → o ≡ meant.second p (firsts 5 a) ∷ drop 5 a
-parameter_put p h i1 i2 i3 i4 i5 n q =
-    let j1 = i1 _ h in
-    let j2 = i2 _ j1.1.1 in
-    let j3 = i3 _ j2.1.1 in
-    let j4 = i4 _ j3.1.1 in
-    let j5 = i5 _ j4.1.1 in
-    q ∙ ap (λ z. meant.second p (firsts 5 z) ∷ drop 5 z) (sym (joined j1.0 refl (joined j2.0 (n j2.1.0) (joined j3.0 refl (joined j4.0 refl (joined j5.0 refl refl))))))
+parameter_put p h i1 i2 i3 i4 i5 n q = of_five meant.second p h i1 i2 i3 i4 i5 (λ _. refl) n (λ _. refl) (λ _. refl) (λ _. refl) q refl
 
 pub constructor_put : {a b c d e o : List Sem} {t u v w name fields made : Sem} (p : At) → AllFit (kind.Name ∷ kind.Token ∷ kind.Many kind.Term ∷ kind.Token ∷ []) a → Taken kind.Name a t b → Taken kind.Token b u c → Taken (kind.Many kind.Term) c v d → Taken kind.Token d w e → (Fits kind.Name t → t ≡ name) → (Fits (kind.Many kind.Term) v → v ≡ fields) → ((q : At) (k l : Sem) → Fits kind.Name name → made ≡ meant.a_ctor q (name ∷ k ∷ fields ∷ l ∷ [])) → o ≡ made ∷ e → o ≡ meant.a_ctor p (firsts 4 a) ∷ drop 4 a
 constructor_put {e = e} {u = u} {w = w} p h i1 i2 i3 i4 n fs m q =
@@ -97,13 +84,13 @@ constructor_put {e = e} {u = u} {w = w} p h i1 i2 i3 i4 n fs m q =
 pub data_is : (b : Bool) (ks : List Token) (at : At) (x : Name) → IsPlace b ks at → IsName ks x → (ns : Sem) (qs : List Name) (cs gs : List (ctors.CtorTree)) → (Fits (kind.Many kind.Name) ns → qs ≡ names_in ns) → gs ≡ cs → (p : At) (k l m : Sem) → Fits kind.Name (first_token b ks) → Fits (kind.Many kind.Name) ns → meant.decl (DataD (record { at = at; name = x }) qs (ctors_of gs)) ≡ meant.data_decl p (k ∷ first_token b ks ∷ ns ∷ l ∷ listed (map ctor_sem cs) ∷ m ∷ [])
 data_is b ks at x q r ns qs cs gs n e p k l m f g =
     let d = ap ctors_of e ∙ sym (ctors_listed cs) in
-    (λ i. meant.decl (DataD (record { at = at; name = x }) (n g i) (d i))) ∙ ap (λ t. meant.data_decl p (k ∷ t ∷ ns ∷ l ∷ listed (map ctor_sem cs) ∷ m ∷ [])) (sym (name_is b ks at x f q r))
+    (λ i. meant.decl (DataD (record { at = at; name = x }) (n g i) (d i))) ∙ ap (λ t. meant.data_decl p (k ∷ t ∷ ns ∷ l ∷ listed (map ctor_sem cs) ∷ m ∷ [])) (sym (named_at b ks q r f))
 
 pub meta_is : (b : Bool) (ks : List Token) (at : At) (x : Name) → IsPlace b ks at → IsName ks x → (a t : Tree) (p : At) (k l m n : Sem) → Fits kind.Name (first_token b ks) → meant.decl (MetaD (record { at = at; name = x }) a t) ≡ meant.meta_decl p (k ∷ first_token b ks ∷ l ∷ term_of a ∷ m ∷ term_of t ∷ n ∷ [])
-meta_is b ks at x q r a t p k l m n f = ap (λ u. meant.meta_decl p (k ∷ u ∷ l ∷ term_of a ∷ m ∷ term_of t ∷ n ∷ [])) (sym (name_is b ks at x f q r))
+meta_is b ks at x q r a t p k l m n f = ap (λ u. meant.meta_decl p (k ∷ u ∷ l ∷ term_of a ∷ m ∷ term_of t ∷ n ∷ [])) (sym (named_at b ks q r f))
 
 pub object_is : (b : Bool) (ks : List Token) (at : At) (x : Name) → IsPlace b ks at → IsName ks x → (a t : Tree) (p : At) (k l m : Sem) → Fits kind.Name (first_token b ks) → meant.decl (ObjectD (record { at = at; name = x }) a t) ≡ meant.object_decl p (first_token b ks ∷ k ∷ term_of a ∷ l ∷ term_of t ∷ m ∷ [])
-object_is b ks at x q r a t p k l m f = ap (λ u. meant.object_decl p (u ∷ k ∷ term_of a ∷ l ∷ term_of t ∷ m ∷ [])) (sym (name_is b ks at x f q r))
+object_is b ks at x q r a t p k l m f = ap (λ u. meant.object_decl p (u ∷ k ∷ term_of a ∷ l ∷ term_of t ∷ m ∷ [])) (sym (named_at b ks q r f))
 
 pub ctor_is : (b : Bool) (ks : List Token) (at : At) (x : Name) → IsPlace b ks at → IsName ks x → (ts us : List Tree) → us ≡ ts → (p : At) (k l : Sem) → Fits kind.Name (first_token b ks) → meant.ctor (record { ctor = record { at = at; name = x }; fields = us }) ≡ meant.a_ctor p (first_token b ks ∷ k ∷ listed (map term_of ts) ∷ l ∷ [])
-ctor_is b ks at x q r ts us e p k l f = ap (λ vs. meant.ctor (record { ctor = record { at = at; name = x }; fields = vs })) (e ∙ sym (terms_listed ts)) ∙ ap (λ u. meant.a_ctor p (u ∷ k ∷ listed (map term_of ts) ∷ l ∷ [])) (sym (name_is b ks at x f q r))
+ctor_is b ks at x q r ts us e p k l f = ap (λ vs. meant.ctor (record { ctor = record { at = at; name = x }; fields = vs })) (e ∙ sym (terms_listed ts)) ∙ ap (λ u. meant.a_ctor p (u ∷ k ∷ listed (map term_of ts) ∷ l ∷ [])) (sym (named_at b ks q r f))

@@ -12,7 +12,6 @@ pub mod Only
 pub mod Fitting
 pub mod Steps
 pub mod Unique
-pub mod Popping
 pub mod Names
 pub mod Declaring
 pub mod Reducing

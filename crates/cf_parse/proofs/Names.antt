@@ -8,6 +8,7 @@ use Rattle.cf_tree.specs.declared.decls.CtorTree as ctors
 use Rattle.cf_tree.specs.declared.decls.Decl.{Decl}
 use Rattle.cf_tree.specs.Tree.{Tree}
 use Rattle.cf_tree.specs.View.{Text, ctors_of, decls_of, names_of}
+use Rattle.cf_parse.proofs.Taken.{name_class}
 use Rattle.cf_parse.specs.Evaluation.{first_token, next_text}
 use Rattle.cf_parse.specs.Kinds as kind
 use Rattle.cf_parse.specs.Kinds.{Fits, Kind, more}
@@ -20,10 +21,6 @@ use Rattle.cf_parse.specs.declared.source.Source.{Source}
 use Rattle.cf_parse.specs.Values.{ctor_sem, decl_sem, listed, term_of, token_of}
 
 -- the lists of meanings of items are the lists of these items
-pub terms_listed : (ts : List Tree) → terms_in (listed (map term_of ts)) ≡ ts
-terms_listed [] = refl
-terms_listed (t ∷ ts) = ap (λ us. t ∷ us) (terms_listed ts)
-
 pub ctors_listed : (cs : List (ctors.CtorTree)) → ctors_in (listed (map ctor_sem cs)) ≡ ctors_of cs
 ctors_listed [] = refl
 ctors_listed (c ∷ cs) = λ i. ctors_of (c ∷ []) ++ ctors_listed cs i
@@ -32,27 +29,11 @@ pub decls_listed : (ds : List Decl) → decls_in (listed (map decl_sem ds)) ≡ 
 decls_listed [] = refl
 decls_listed (d ∷ ds) = λ i. decls_of (d ∷ []) ++ decls_listed ds i
 
--- the class of a name
-class_is : (p : At) (k : Class) (x : List ℕ) → Fits kind.Name (meant.token p k x) → (b : Bool) × (k ≡ class.Name b)
-class_is p (class.Name b) x h = (b, refl)
-class_is p (class.Word y) x h = elim h [ ]
-class_is p class.Whole x h = elim h [ ]
-class_is p class.NatLit x h = elim h [ ]
-class_is p class.Hole x h = elim h [ ]
-class_is p (class.Mark z) x h = elim h [ ]
-class_is p class.End x h = elim h [ ]
-
--- a name token has this place and these bytes
-pub name_is : (b : Bool) (ks : List Token) (p : At) (x : List ℕ) → Fits kind.Name (first_token b ks) → IsPlace b ks p → IsName ks x → first_token b ks ≡ meant.token p (front ks) x
-name_is b [] p x h q r = elim h [ ]
-name_is b (k ∷ ks) p x h q r =
-    let c = class_is (place b k.at) k.class k.text h in
-    λ i. meant.token (sym (q k ks refl) i) k.class (sym (r k ks c.0 refl c.1) i)
-
+-- the bytes of a name token
 name_text : (b : Bool) (ks : List Token) (x : List ℕ) → Fits kind.Name (first_token b ks) → IsName ks x → x ≡ next_text ks
 name_text b [] x h r = elim h [ ]
 name_text b (k ∷ ks) x h r =
-    let c = class_is (place b k.at) k.class k.text h in
+    let c = name_class h in
     r k ks c.0 refl c.1
 
 parted : {j : Kind} {x xs : Sem} → Fits (kind.Many j) (also x xs) → Fits j x × Fits (kind.Many j) xs

@@ -8,6 +8,7 @@ use Rattle.cf_tree.specs.declared.heads.Head.TheVariants as head
 use Rattle.cf_tree.specs.declared.forms.Definition.{Definition}
 use Rattle.cf_tree.specs.Tree.{Plain, Tree, branch, none, part, tree}
 use Rattle.cf_tree.specs.View.{Text, binder_of, binders_of, branches, definitions, variables}
+use Rattle.cf_parse.proofs.Taken.{eight, five, four, made, name_class, one, retold, seven, three, two}
 use Rattle.cf_parse.specs.Evaluation.{first_token, firsts}
 use Rattle.cf_parse.specs.Kinds as kind
 use Rattle.cf_parse.specs.Kinds.{Kind, Fits, AllFit}
@@ -17,66 +18,27 @@ use Rattle.cf_parse.specs.Standing.{IsName, IsPlace, front}
 use Rattle.cf_parse.specs.Tokens.{Token}
 use Rattle.cf_parse.specs.Values.{Taken, arm_of, binder_sem, listed, optional_term, term_of}
 
--- a value was taken, and its meaning is x
-pub record Step (js : List Kind) (a : List Sem) (x : Sem) (b : List Sem) : Type 0 where
-  pub parted : a ≡ x ∷ b
-  pub others : AllFit js b
-
-pub step : {j : Kind} {js : List Kind} {a b : List Sem} {v x : Sem} → AllFit (j ∷ js) a → Taken j a v b → (Fits j v → v ≡ x) → Step js a x b
-step {js = js} {b = b} h s g =
-    let k = s js h in
-    record { parted = k.0 ∙ (λ i. g k.1.0 i ∷ b); others = k.1.1 }
-
+-- so many values were taken, one after the other, and what an action makes of their meanings takes their place
 pub of_one : (f : Action) (p : At) {j1 : Kind} {a0 a1 m : List Sem} {v1 x1 z : Sem} → AllFit (j1 ∷ []) a0 → Taken j1 a0 v1 a1 → (Fits j1 v1 → v1 ≡ x1) → m ≡ z ∷ a1 → z ≡ f p (x1 ∷ []) → m ≡ f p (firsts 1 a0) ∷ drop 1 a0
-of_one f p {a1 = a1} {x1 = x1} h s1 g1 e is =
-    let k1 = step h s1 g1 in
-    e ∙ (λ i. is i ∷ a1) ∙ ap (λ l. f p (firsts 1 l) ∷ drop 1 l) (sym (k1.parted))
+of_one f p h s1 g1 e is = made (λ l. f p (firsts 1 l) ∷ drop 1 l) e is (one h (retold s1 g1)).0 refl
 
 pub of_two : (f : Action) (p : At) {j1 j2 : Kind} {a0 a1 a2 m : List Sem} {v1 v2 x1 x2 z : Sem} → AllFit (j1 ∷ j2 ∷ []) a0 → Taken j1 a0 v1 a1 → Taken j2 a1 v2 a2 → (Fits j1 v1 → v1 ≡ x1) → (Fits j2 v2 → v2 ≡ x2) → m ≡ z ∷ a2 → z ≡ f p (x1 ∷ x2 ∷ []) → m ≡ f p (firsts 2 a0) ∷ drop 2 a0
-of_two f p {a2 = a2} {x1 = x1} {x2 = x2} h s1 s2 g1 g2 e is =
-    let k1 = step h s1 g1 in
-    let k2 = step k1.others s2 g2 in
-    e ∙ (λ i. is i ∷ a2) ∙ ap (λ l. f p (firsts 2 l) ∷ drop 2 l) (sym (k1.parted ∙ ap (λ l. x1 ∷ l) (k2.parted)))
+of_two f p h s1 s2 g1 g2 e is = made (λ l. f p (firsts 2 l) ∷ drop 2 l) e is (two h (retold s1 g1) (retold s2 g2)).0 refl
+
+pub of_three : (f : Action) (p : At) {j1 j2 j3 : Kind} {a0 a1 a2 a3 m : List Sem} {v1 v2 v3 x1 x2 x3 z : Sem} → AllFit (j1 ∷ j2 ∷ j3 ∷ []) a0 → Taken j1 a0 v1 a1 → Taken j2 a1 v2 a2 → Taken j3 a2 v3 a3 → (Fits j1 v1 → v1 ≡ x1) → (Fits j2 v2 → v2 ≡ x2) → (Fits j3 v3 → v3 ≡ x3) → m ≡ z ∷ a3 → z ≡ f p (x1 ∷ x2 ∷ x3 ∷ []) → m ≡ f p (firsts 3 a0) ∷ drop 3 a0
+of_three f p h s1 s2 s3 g1 g2 g3 e is = made (λ l. f p (firsts 3 l) ∷ drop 3 l) e is (three h (retold s1 g1) (retold s2 g2) (retold s3 g3)).0 refl
 
 pub of_four : (f : Action) (p : At) {j1 j2 j3 j4 : Kind} {a0 a1 a2 a3 a4 m : List Sem} {v1 v2 v3 v4 x1 x2 x3 x4 z : Sem} → AllFit (j1 ∷ j2 ∷ j3 ∷ j4 ∷ []) a0 → Taken j1 a0 v1 a1 → Taken j2 a1 v2 a2 → Taken j3 a2 v3 a3 → Taken j4 a3 v4 a4 → (Fits j1 v1 → v1 ≡ x1) → (Fits j2 v2 → v2 ≡ x2) → (Fits j3 v3 → v3 ≡ x3) → (Fits j4 v4 → v4 ≡ x4) → m ≡ z ∷ a4 → z ≡ f p (x1 ∷ x2 ∷ x3 ∷ x4 ∷ []) → m ≡ f p (firsts 4 a0) ∷ drop 4 a0
-of_four f p {a4 = a4} {x1 = x1} {x2 = x2} {x3 = x3} {x4 = x4} h s1 s2 s3 s4 g1 g2 g3 g4 e is =
-    let k1 = step h s1 g1 in
-    let k2 = step k1.others s2 g2 in
-    let k3 = step k2.others s3 g3 in
-    let k4 = step k3.others s4 g4 in
-    e ∙ (λ i. is i ∷ a4) ∙ ap (λ l. f p (firsts 4 l) ∷ drop 4 l) (sym (k1.parted ∙ ap (λ l. x1 ∷ l) (k2.parted ∙ ap (λ l. x2 ∷ l) (k3.parted ∙ ap (λ l. x3 ∷ l) (k4.parted)))))
+of_four f p h s1 s2 s3 s4 g1 g2 g3 g4 e is = made (λ l. f p (firsts 4 l) ∷ drop 4 l) e is (four h (retold s1 g1) (retold s2 g2) (retold s3 g3) (retold s4 g4)).0 refl
 
 pub of_five : (f : Action) (p : At) {j1 j2 j3 j4 j5 : Kind} {a0 a1 a2 a3 a4 a5 m : List Sem} {v1 v2 v3 v4 v5 x1 x2 x3 x4 x5 z : Sem} → AllFit (j1 ∷ j2 ∷ j3 ∷ j4 ∷ j5 ∷ []) a0 → Taken j1 a0 v1 a1 → Taken j2 a1 v2 a2 → Taken j3 a2 v3 a3 → Taken j4 a3 v4 a4 → Taken j5 a4 v5 a5 → (Fits j1 v1 → v1 ≡ x1) → (Fits j2 v2 → v2 ≡ x2) → (Fits j3 v3 → v3 ≡ x3) → (Fits j4 v4 → v4 ≡ x4) → (Fits j5 v5 → v5 ≡ x5) → m ≡ z ∷ a5 → z ≡ f p (x1 ∷ x2 ∷ x3 ∷ x4 ∷ x5 ∷ []) → m ≡ f p (firsts 5 a0) ∷ drop 5 a0
-of_five f p {a5 = a5} {x1 = x1} {x2 = x2} {x3 = x3} {x4 = x4} {x5 = x5} h s1 s2 s3 s4 s5 g1 g2 g3 g4 g5 e is =
-    let k1 = step h s1 g1 in
-    let k2 = step k1.others s2 g2 in
-    let k3 = step k2.others s3 g3 in
-    let k4 = step k3.others s4 g4 in
-    let k5 = step k4.others s5 g5 in
-    e ∙ (λ i. is i ∷ a5) ∙ ap (λ l. f p (firsts 5 l) ∷ drop 5 l) (sym (k1.parted ∙ ap (λ l. x1 ∷ l) (k2.parted ∙ ap (λ l. x2 ∷ l) (k3.parted ∙ ap (λ l. x3 ∷ l) (k4.parted ∙ ap (λ l. x4 ∷ l) (k5.parted))))))
+of_five f p h s1 s2 s3 s4 s5 g1 g2 g3 g4 g5 e is = made (λ l. f p (firsts 5 l) ∷ drop 5 l) e is (five h (retold s1 g1) (retold s2 g2) (retold s3 g3) (retold s4 g4) (retold s5 g5)).0 refl
 
 pub of_seven : (f : Action) (p : At) {j1 j2 j3 j4 j5 j6 j7 : Kind} {a0 a1 a2 a3 a4 a5 a6 a7 m : List Sem} {v1 v2 v3 v4 v5 v6 v7 x1 x2 x3 x4 x5 x6 x7 z : Sem} → AllFit (j1 ∷ j2 ∷ j3 ∷ j4 ∷ j5 ∷ j6 ∷ j7 ∷ []) a0 → Taken j1 a0 v1 a1 → Taken j2 a1 v2 a2 → Taken j3 a2 v3 a3 → Taken j4 a3 v4 a4 → Taken j5 a4 v5 a5 → Taken j6 a5 v6 a6 → Taken j7 a6 v7 a7 → (Fits j1 v1 → v1 ≡ x1) → (Fits j2 v2 → v2 ≡ x2) → (Fits j3 v3 → v3 ≡ x3) → (Fits j4 v4 → v4 ≡ x4) → (Fits j5 v5 → v5 ≡ x5) → (Fits j6 v6 → v6 ≡ x6) → (Fits j7 v7 → v7 ≡ x7) → m ≡ z ∷ a7 → z ≡ f p (x1 ∷ x2 ∷ x3 ∷ x4 ∷ x5 ∷ x6 ∷ x7 ∷ []) → m ≡ f p (firsts 7 a0) ∷ drop 7 a0
-of_seven f p {a7 = a7} {x1 = x1} {x2 = x2} {x3 = x3} {x4 = x4} {x5 = x5} {x6 = x6} {x7 = x7} h s1 s2 s3 s4 s5 s6 s7 g1 g2 g3 g4 g5 g6 g7 e is =
-    let k1 = step h s1 g1 in
-    let k2 = step k1.others s2 g2 in
-    let k3 = step k2.others s3 g3 in
-    let k4 = step k3.others s4 g4 in
-    let k5 = step k4.others s5 g5 in
-    let k6 = step k5.others s6 g6 in
-    let k7 = step k6.others s7 g7 in
-    e ∙ (λ i. is i ∷ a7) ∙ ap (λ l. f p (firsts 7 l) ∷ drop 7 l) (sym (k1.parted ∙ ap (λ l. x1 ∷ l) (k2.parted ∙ ap (λ l. x2 ∷ l) (k3.parted ∙ ap (λ l. x3 ∷ l) (k4.parted ∙ ap (λ l. x4 ∷ l) (k5.parted ∙ ap (λ l. x5 ∷ l) (k6.parted ∙ ap (λ l. x6 ∷ l) (k7.parted))))))))
+of_seven f p h s1 s2 s3 s4 s5 s6 s7 g1 g2 g3 g4 g5 g6 g7 e is = made (λ l. f p (firsts 7 l) ∷ drop 7 l) e is (seven h (retold s1 g1) (retold s2 g2) (retold s3 g3) (retold s4 g4) (retold s5 g5) (retold s6 g6) (retold s7 g7)) refl
 
 pub of_eight : (f : Action) (p : At) {j1 j2 j3 j4 j5 j6 j7 j8 : Kind} {a0 a1 a2 a3 a4 a5 a6 a7 a8 m : List Sem} {v1 v2 v3 v4 v5 v6 v7 v8 x1 x2 x3 x4 x5 x6 x7 x8 z : Sem} → AllFit (j1 ∷ j2 ∷ j3 ∷ j4 ∷ j5 ∷ j6 ∷ j7 ∷ j8 ∷ []) a0 → Taken j1 a0 v1 a1 → Taken j2 a1 v2 a2 → Taken j3 a2 v3 a3 → Taken j4 a3 v4 a4 → Taken j5 a4 v5 a5 → Taken j6 a5 v6 a6 → Taken j7 a6 v7 a7 → Taken j8 a7 v8 a8 → (Fits j1 v1 → v1 ≡ x1) → (Fits j2 v2 → v2 ≡ x2) → (Fits j3 v3 → v3 ≡ x3) → (Fits j4 v4 → v4 ≡ x4) → (Fits j5 v5 → v5 ≡ x5) → (Fits j6 v6 → v6 ≡ x6) → (Fits j7 v7 → v7 ≡ x7) → (Fits j8 v8 → v8 ≡ x8) → m ≡ z ∷ a8 → z ≡ f p (x1 ∷ x2 ∷ x3 ∷ x4 ∷ x5 ∷ x6 ∷ x7 ∷ x8 ∷ []) → m ≡ f p (firsts 8 a0) ∷ drop 8 a0
-of_eight f p {a8 = a8} {x1 = x1} {x2 = x2} {x3 = x3} {x4 = x4} {x5 = x5} {x6 = x6} {x7 = x7} {x8 = x8} h s1 s2 s3 s4 s5 s6 s7 s8 g1 g2 g3 g4 g5 g6 g7 g8 e is =
-    let k1 = step h s1 g1 in
-    let k2 = step k1.others s2 g2 in
-    let k3 = step k2.others s3 g3 in
-    let k4 = step k3.others s4 g4 in
-    let k5 = step k4.others s5 g5 in
-    let k6 = step k5.others s6 g6 in
-    let k7 = step k6.others s7 g7 in
-    let k8 = step k7.others s8 g8 in
-    e ∙ (λ i. is i ∷ a8) ∙ ap (λ l. f p (firsts 8 l) ∷ drop 8 l) (sym (k1.parted ∙ ap (λ l. x1 ∷ l) (k2.parted ∙ ap (λ l. x2 ∷ l) (k3.parted ∙ ap (λ l. x3 ∷ l) (k4.parted ∙ ap (λ l. x4 ∷ l) (k5.parted ∙ ap (λ l. x5 ∷ l) (k6.parted ∙ ap (λ l. x6 ∷ l) (k7.parted ∙ ap (λ l. x7 ∷ l) (k8.parted)))))))))
+of_eight f p h s1 s2 s3 s4 s5 s6 s7 s8 g1 g2 g3 g4 g5 g6 g7 g8 e is = made (λ l. f p (firsts 8 l) ∷ drop 8 l) e is (eight h (retold s1 g1) (retold s2 g2) (retold s3 g3) (retold s4 g4) (retold s5 g5) (retold s6 g6) (retold s7 g7) (retold s8 g8)) refl
 
 -- the items of a list of meanings
 pub binders_listed : (bs : List (Option Text)) → binders_in (listed (map binder_sem bs)) ≡ binders_of bs
@@ -95,28 +57,11 @@ type_given p (Some t) = refl
 pub cases_made : (p : At) (t u : Tree) (ty : Option Tree) (bs : List Branch) (k l m n : Sem) → u ≡ tree p (Plain head.Case) (part [] t (part [] (or_missing p ty) (branches bs))) → term_of u ≡ meant.cases p (k ∷ term_of t ∷ optional_term ty ∷ l ∷ m ∷ listed (map arm_of bs) ∷ n ∷ [])
 cases_made p t u ty bs k l m n e = ap term_of e ∙ sym (λ i. meant.term (tree p (Plain head.Case) (part [] t (part [] (type_given p ty i) (arms_listed bs i)))))
 
--- the class of a name
-named_class : (p : At) (k : Class) (x : List ℕ) → Fits kind.Name (meant.token p k x) → (b : Bool) × (k ≡ class.Name b)
-named_class p (class.Name b) x h = (b, refl)
-named_class p (class.Word y) x h = elim h [ ]
-named_class p class.Whole x h = elim h [ ]
-named_class p class.NatLit x h = elim h [ ]
-named_class p class.Hole x h = elim h [ ]
-named_class p (class.Mark z) x h = elim h [ ]
-named_class p class.End x h = elim h [ ]
-
--- a name token has this place and these bytes
-pub name_token : (b : Bool) (ks : List Token) (p : At) (x : List ℕ) → Fits kind.Name (first_token b ks) → IsPlace b ks p → IsName ks x → first_token b ks ≡ meant.token p (front ks) x
-name_token b [] p x h q r = elim h [ ]
-name_token b (k ∷ ks) p x h q r =
-    let c = named_class (place b k.at) k.class k.text h in
-    λ i. meant.token (sym (q k ks refl) i) k.class (sym (r k ks c.0 refl c.1) i)
-
 -- what a name token binds
 pub name_binds : (b : Bool) (ks : List Token) (p : At) (x : List ℕ) → Fits kind.Name (first_token b ks) → IsName ks x → meant.binder (Some x) ≡ meant.named p (first_token b ks ∷ [])
 name_binds b [] p x h r = elim h [ ]
 name_binds b (k ∷ ks) p x h r =
-    let c = named_class (place b k.at) k.class k.text h in
+    let c = name_class h in
     ap (λ y. meant.binder (Some y)) (r k ks c.0 refl c.1)
 
 -- a definition that is the only one of its group

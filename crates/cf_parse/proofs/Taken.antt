@@ -63,8 +63,18 @@ six {j = j} {k = k} {l = l} {m = m} {n = n} {u = u} h t r q a f g =
     let o = t (j ∷ k ∷ l ∷ m ∷ n ∷ []) h in
     o.0 ∙ ap (λ s. u ∷ s) (five o.1.1 r q a f g).0
 
+pub seven : {i j k l m n o : Kind} {s0 s1 s2 s3 s4 s5 s6 s7 : List Sem} {t u v w x y z : Sem} → AllFit (i ∷ j ∷ k ∷ l ∷ m ∷ n ∷ o ∷ []) s0 → Taken i s0 t s1 → Taken j s1 u s2 → Taken k s2 v s3 → Taken l s3 w s4 → Taken m s4 x s5 → Taken n s5 y s6 → Taken o s6 z s7 → s0 ≡ t ∷ u ∷ v ∷ w ∷ x ∷ y ∷ z ∷ s7
+seven {j = j} {k = k} {l = l} {m = m} {n = n} {o = o} {t = t} h r1 r2 r3 r4 r5 r6 r7 =
+    let p = r1 (j ∷ k ∷ l ∷ m ∷ n ∷ o ∷ []) h in
+    p.0 ∙ ap (λ s. t ∷ s) (six p.1.1 r2 r3 r4 r5 r6 r7)
+
+pub eight : {h i j k l m n o : Kind} {s0 s1 s2 s3 s4 s5 s6 s7 s8 : List Sem} {s t u v w x y z : Sem} → AllFit (h ∷ i ∷ j ∷ k ∷ l ∷ m ∷ n ∷ o ∷ []) s0 → Taken h s0 s s1 → Taken i s1 t s2 → Taken j s2 u s3 → Taken k s3 v s4 → Taken l s4 w s5 → Taken m s5 x s6 → Taken n s6 y s7 → Taken o s7 z s8 → s0 ≡ s ∷ t ∷ u ∷ v ∷ w ∷ x ∷ y ∷ z ∷ s8
+eight {i = i} {j = j} {k = k} {l = l} {m = m} {n = n} {o = o} {s = s} h r1 r2 r3 r4 r5 r6 r7 r8 =
+    let p = r1 (i ∷ j ∷ k ∷ l ∷ m ∷ n ∷ o ∷ []) h in
+    p.0 ∙ ap (λ l. s ∷ l) (seven p.1.1 r2 r3 r4 r5 r6 r7 r8)
+
 -- the classes of tokens that are a name, a number, a word
-name_class : {p : At} {c : Class} {x : Name} → Fits kind.Name (meant.token p c x) → (b : Bool) × (c ≡ class.Name b)
+pub name_class : {p : At} {c : Class} {x : Name} → Fits kind.Name (meant.token p c x) → (b : Bool) × (c ≡ class.Name b)
 name_class (a_name {b = b}) = (b, refl)
 
 whole_class : {p : At} {c : Class} {x : Name} → Fits kind.Whole (meant.token p c x) → (c ≡ class.Whole) × (in_range c x ≡ true)

@@ -1,16 +1,14 @@
 // Terms that bind variables, and what stands behind an arrow.
 ghost use Rattle.std.specs.Prelude.{◌≡◌, ◌∷◌, [], IfOk, false, reverse, true};
-ghost use Rattle.cf_grammar.specs.declared.classes.Class.{Class};
 ghost use Rattle.cf_grammar.specs.declared.productions.Production.TheVariants as by;
 ghost use Rattle.cf_tree.specs.Tree.{Plain, part, tree};
 ghost use Rattle.cf_tree.specs.View.{binders_of, branches};
 ghost use Rattle.cf_tree.specs.declared.heads.Head.TheVariants as head;
 ghost use Rattle.cf_parse.specs.Evaluation.{reduced};
-ghost use Rattle.cf_parse.specs.Kinds as kind;
-ghost use Rattle.cf_parse.specs.Kinds.{AllFit, Fits, params};
+ghost use Rattle.cf_parse.specs.Kinds.{AllFit, params};
 ghost use Rattle.cf_parse.specs.Meaning.{Sem, or_missing};
 ghost use Rattle.cf_parse.specs.Meaning as meant;
-ghost use Rattle.cf_parse.specs.Values.{arm_of, binder_sem, domain_of, optional_onto, sems, term_of, token_of};
+ghost use Rattle.cf_parse.specs.Values.{arm_of, binder_sem, domain_of, optional_onto, sems, term_of};
 
 use crate::ends::OutOfMemory;
 use crate::parts::{Domain, or_missing};
@@ -373,12 +371,11 @@ impl Source<'_> {
         requires { AllFit (params by.Branch) (sems self.now values.old) }
         ensures { IfOk result (λ _. sems self.now values.new ≡ reduced by.Branch place (sems self.now values.old)) }
     {
-        let ctor = pop(values).token();
+        let ctor = self.take_named(values)?;
         let names = pop(values).binders(self.alloc)?;
         pop(values);
         let body = pop(values).term();
-        let name = self.name_at(ctor)?;
-        let arm = new_arm(self.alloc, name, names, body)?;
+        let arm = new_arm(self.alloc, ctor, names, body)?;
         push(values, Value::Arm(arm))?;
         Ok(())
     }
@@ -415,15 +412,5 @@ impl Source<'_> {
         let codomain = pop(values).term();
         push(values, Value::Onto(true, codomain))?;
         Ok(())
-    }
-
-    // The name with this number, and where it stands.
-    fn name_at(&self, at: usize) -> Result<Named, OutOfMemory>
-        ensures { IfOk result (λ n. Fits kind.Name (token_of self.now at) → (c : Class) × (token_of self.now at ≡ meant.token n.at c n.name)) }
-    {
-        Ok(Named {
-            at: self.place(at),
-            name: self.text(at)?,
-        })
     }
 }

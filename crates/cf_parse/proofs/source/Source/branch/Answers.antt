@@ -1,14 +1,10 @@
-use Rattle.std.proofs.Common.{◌∙◌, ap, refl, reverse, subst, sym}
+use Rattle.std.proofs.Common.{◌∙◌, ap, refl, reverse, sym}
 use Rattle.cf_parse.proofs.Reducing.{binders_listed, of_four}
 use Rattle.cf_parse.specs.Kinds as kind
-use Rattle.cf_parse.specs.Kinds.{Fits}
 use Rattle.cf_parse.specs.Meaning as meant
 use Rattle.cf_parse.proofs.source.Source.branch.Goals as goal
 
 pub returns : goal.returns
 returns c =
     let s = c.args.self.now in
-    let f = (c.pop.ensures s kind.Name _ c.requires).1.0 in
-    let e = c.token-ctor.ensures s kind.Name tt f in
-    let n = c.in_ok-name.ensures (subst (Fits kind.Name) e f) in
-    of_four meant.an_arm c.args.place c.requires (c.pop.ensures s kind.Name) (c.pop-2.ensures s (kind.Many kind.Binder)) (c.pop-3.ensures s kind.Token) (c.pop-4.ensures s kind.Term) (λ h. e ∙ n.1) (c.in_ok-names.ensures s) (λ h. refl) (c.term-body.ensures s) (c.in_ok-push.ensures s) (c.in_ok-arm.ensures ∙ sym (ap (λ bs. meant.arm c.in_ok-name.name bs c.term-body.result) (binders_listed (reverse c.in_ok-names.names.items))))
+    of_four meant.an_arm c.args.place c.requires c.in_ok-ctor.ensures.1 (c.pop.ensures s (kind.Many kind.Binder)) (c.pop-2.ensures s kind.Token) (c.pop-3.ensures s kind.Term) (λ h. refl) (c.in_ok-names.ensures s) (λ h. refl) (c.term-body.ensures s) (c.in_ok-push.ensures s) (c.in_ok-arm.ensures ∙ sym (ap (λ bs. meant.arm c.in_ok-ctor.ctor bs c.term-body.result) (binders_listed (reverse c.in_ok-names.names.items))))

@@ -1,13 +1,14 @@
-use Rattle.std.proofs.Common.{ap}
+use Rattle.std.proofs.Common.{ap, refl}
 use Rattle.cf_parse.proofs.Only.{ctor_only}
-use Rattle.cf_parse.proofs.Popping.{put}
+use Rattle.cf_parse.proofs.Reducing.{of_two}
 use Rattle.cf_parse.specs.Values.{sem}
+use Rattle.cf_parse.specs.Meaning as meant
 use Rattle.cf_parse.proofs.source.Source.first_constructor.Goals as goal
 
 pub returns-in_ok-push : goal.returns-in_ok-push
 returns-in_ok-push c =
     let s = c.args.self.now in
-    put c.args.place c.requires (c.pop.ensures s _) (c.pop-in-Ctor.ensures s _) (λ _. ap (sem s) c.in-Ctor.is) (c.in_ok-others.ensures s) (c.in_ok-push.ensures s)
+    of_two meant.more c.args.place c.requires (c.pop.ensures s _) (c.pop-in-Ctor.ensures s _) (λ _. ap (sem s) c.in-Ctor.is) (c.in_ok-others.ensures s) (c.in_ok-push.ensures s) refl
 
 pub returns-in_default : goal.returns-in_default
 returns-in_default c =

@@ -1,13 +1,14 @@
-use Rattle.std.proofs.Common.{ap}
+use Rattle.std.proofs.Common.{ap, refl}
 use Rattle.cf_parse.proofs.Only.{ctor_only}
-use Rattle.cf_parse.proofs.Popping.{put_behind}
+use Rattle.cf_parse.proofs.Reducing.{of_three}
 use Rattle.cf_parse.specs.Values.{sem}
+use Rattle.cf_parse.specs.Meaning as meant
 use Rattle.cf_parse.proofs.source.Source.next_constructor.Goals as goal
 
 pub returns-in_ok-push : goal.returns-in_ok-push
 returns-in_ok-push c =
     let s = c.args.self.now in
-    put_behind c.args.place c.requires (c.pop.ensures s _) (c.pop-2.ensures s _) (c.pop-in-Ctor.ensures s _) (λ _. ap (sem s) c.in-Ctor.is) (c.in_ok-others.ensures s) (c.in_ok-push.ensures s)
+    of_three meant.more_behind c.args.place c.requires (c.pop.ensures s _) (c.pop-2.ensures s _) (c.pop-in-Ctor.ensures s _) (λ h. refl) (λ _. ap (sem s) c.in-Ctor.is) (c.in_ok-others.ensures s) (c.in_ok-push.ensures s) refl
 
 pub returns-in_default : goal.returns-in_default
 returns-in_default c =
