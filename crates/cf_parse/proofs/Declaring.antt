@@ -86,11 +86,11 @@ data_is b ks at x q r ns qs cs gs n e p k l m f g =
     let d = ap ctors_of e ∙ sym (ctors_listed cs) in
     (λ i. meant.decl (DataD (record { at = at; name = x }) (n g i) (d i))) ∙ ap (λ t. meant.data_decl p (k ∷ t ∷ ns ∷ l ∷ listed (map ctor_sem cs) ∷ m ∷ [])) (sym (named_at b ks q r f))
 
-pub meta_is : (b : Bool) (ks : List Token) (at : At) (x : Name) → IsPlace b ks at → IsName ks x → (a t : Tree) (p : At) (k l m n : Sem) → Fits kind.Name (first_token b ks) → meant.decl (MetaD (record { at = at; name = x }) a t) ≡ meant.meta_decl p (k ∷ first_token b ks ∷ l ∷ term_of a ∷ m ∷ term_of t ∷ n ∷ [])
-meta_is b ks at x q r a t p k l m n f = ap (λ u. meant.meta_decl p (k ∷ u ∷ l ∷ term_of a ∷ m ∷ term_of t ∷ n ∷ [])) (sym (named_at b ks q r f))
+pub meta_is : (b : Bool) (ks : List Token) (at : At) (x : Name) → IsPlace b ks at → IsName ks x → (a t c u : Tree) → a ≡ c → t ≡ u → (p : At) (k l m n : Sem) → Fits kind.Name (first_token b ks) → meant.decl (MetaD (record { at = at; name = x }) a t) ≡ meant.meta_decl p (k ∷ first_token b ks ∷ l ∷ term_of c ∷ m ∷ term_of u ∷ n ∷ [])
+meta_is b ks at x q r a t c u e g p k l m n f = (λ i. meant.decl (MetaD (record { at = at; name = x }) (e i) (g i))) ∙ ap (λ v. meant.meta_decl p (k ∷ v ∷ l ∷ term_of c ∷ m ∷ term_of u ∷ n ∷ [])) (sym (named_at b ks q r f))
 
-pub object_is : (b : Bool) (ks : List Token) (at : At) (x : Name) → IsPlace b ks at → IsName ks x → (a t : Tree) (p : At) (k l m : Sem) → Fits kind.Name (first_token b ks) → meant.decl (ObjectD (record { at = at; name = x }) a t) ≡ meant.object_decl p (first_token b ks ∷ k ∷ term_of a ∷ l ∷ term_of t ∷ m ∷ [])
-object_is b ks at x q r a t p k l m f = ap (λ u. meant.object_decl p (u ∷ k ∷ term_of a ∷ l ∷ term_of t ∷ m ∷ [])) (sym (named_at b ks q r f))
+pub object_is : (b : Bool) (ks : List Token) (at : At) (x : Name) → IsPlace b ks at → IsName ks x → (a t c u : Tree) → a ≡ c → t ≡ u → (p : At) (k l m : Sem) → Fits kind.Name (first_token b ks) → meant.decl (ObjectD (record { at = at; name = x }) a t) ≡ meant.object_decl p (first_token b ks ∷ k ∷ term_of c ∷ l ∷ term_of u ∷ m ∷ [])
+object_is b ks at x q r a t c u e g p k l m f = (λ i. meant.decl (ObjectD (record { at = at; name = x }) (e i) (g i))) ∙ ap (λ v. meant.object_decl p (v ∷ k ∷ term_of c ∷ l ∷ term_of u ∷ m ∷ [])) (sym (named_at b ks q r f))
 
 pub ctor_is : (b : Bool) (ks : List Token) (at : At) (x : Name) → IsPlace b ks at → IsName ks x → (ts us : List Tree) → us ≡ ts → (p : At) (k l : Sem) → Fits kind.Name (first_token b ks) → meant.ctor (record { ctor = record { at = at; name = x }; fields = us }) ≡ meant.a_ctor p (first_token b ks ∷ k ∷ listed (map term_of ts) ∷ l ∷ [])
 ctor_is b ks at x q r ts us e p k l f = ap (λ vs. meant.ctor (record { ctor = record { at = at; name = x }; fields = vs })) (e ∙ sym (terms_listed ts)) ∙ ap (λ u. meant.a_ctor p (u ∷ k ∷ listed (map term_of ts) ∷ l ∷ [])) (sym (named_at b ks q r f))

@@ -17,7 +17,7 @@ one_operand p t u v old new whole e f h =
 pub no_operand : (p : At) (t : Tree) (old : List Tree) (whole : Tree) → old ≡ [] → operands p t (listed (map term_of (reverse old))) ≡ whole → t ≡ whole
 no_operand p t old whole e h = sym (ap (λ l. operands p t (listed (map term_of (reverse l)))) e) ∙ h
 
-pub one_argument : (p : At) (t : Tree) (u : Argument) (v : Tree) (old new : List Argument) (whole : Tree) → old ≡ new ++ u ∷ [] → v ≡ form p (head.App u.implicit) (t ∷ u.term ∷ []) → arguments p t (listed (map argument_of (reverse old))) ≡ whole → arguments p v (listed (map argument_of (reverse new))) ≡ whole
+pub one_argument : (p : At) (t : Tree) (u : Argument) (v : Tree) (old new : List Argument) (whole : Tree) → old ≡ new ++ u ∷ [] → v ≡ form p (head.App u.implicit) (t ∷ u.term.value ∷ []) → arguments p t (listed (map argument_of (reverse old))) ≡ whole → arguments p v (listed (map argument_of (reverse new))) ≡ whole
 one_argument p t u v old new whole e f h =
     ap (λ x. arguments p x (listed (map argument_of (reverse new)))) f
     ∙ sym (ap (λ l. arguments p t (listed (map argument_of l))) (ap reverse e ∙ reverse-append new (u ∷ [])))

@@ -27,7 +27,7 @@ use Rattle.cf_parse.proofs.Deriving as grown
 use Rattle.cf_parse.proofs.Refusing.{Unspoiled, unspoiled_front, literal_refused, syntax_refused, past_refused, wrong_of}
 use Rattle.cf_parse.proofs.Steps.{clash, none_some, some_inj}
 use Rattle.cf_parse.specs.Checks.{FirstBad, token_in_range}
-use Rattle.cf_parse.specs.Reads.{Reads, ReadsTokens, in_range}
+use Rattle.cf_parse.specs.Reads.{ReadsTokens, in_range}
 use Rattle.cf_parse.specs.Refusals.{RefusedAt, Refuses, Literal, Syntax, Wrong}
 use Rattle.cf_parse.specs.Tokens.{Token, class_of, classes, end_of, token_of, tokens_of}
 

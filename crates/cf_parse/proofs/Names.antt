@@ -1,24 +1,19 @@
 -- Names that stand for tokens, and lists of names.
 use Rattle.std.proofs.Common.{◌≡◌, ◌∙◌, refl, ap, sym, subst, ℕ, Bool, List, [], ◌∷◌, ◌++◌, map, reverse, append_assoc, string_bytes}
 use Rattle.std.proofs.lemmas.List.{reverse-append}
-use Rattle.cf_base.specs.declared.at.At.{At}
-use Rattle.cf_grammar.specs.declared.classes.Class.{Class}
-use Rattle.cf_grammar.specs.declared.classes.Class.TheVariants as class
 use Rattle.cf_tree.specs.declared.decls.CtorTree as ctors
 use Rattle.cf_tree.specs.declared.decls.Decl.{Decl}
-use Rattle.cf_tree.specs.Tree.{Tree}
 use Rattle.cf_tree.specs.View.{Text, ctors_of, decls_of, names_of}
 use Rattle.cf_parse.proofs.Taken.{name_class}
 use Rattle.cf_parse.specs.Evaluation.{first_token, next_text}
 use Rattle.cf_parse.specs.Kinds as kind
 use Rattle.cf_parse.specs.Kinds.{Fits, Kind, more}
-use Rattle.cf_parse.specs.Meaning.{Sem, also, ctors_in, decls_in, names_in, place, terms_in}
-use Rattle.cf_parse.specs.Meaning as meant
-use Rattle.cf_parse.specs.Standing.{IsName, IsPlace, front}
+use Rattle.cf_parse.specs.Meaning.{Sem, also, ctors_in, decls_in, names_in}
+use Rattle.cf_parse.specs.Standing.{IsName}
 use Rattle.cf_parse.specs.Steps.{from}
 use Rattle.cf_parse.specs.Tokens.{Token}
 use Rattle.cf_parse.specs.declared.source.Source.{Source}
-use Rattle.cf_parse.specs.Values.{ctor_sem, decl_sem, listed, term_of, token_of}
+use Rattle.cf_parse.specs.Values.{ctor_sem, decl_sem, listed, token_of}
 
 -- the lists of meanings of items are the lists of these items
 pub ctors_listed : (cs : List (ctors.CtorTree)) → ctors_in (listed (map ctor_sem cs)) ≡ ctors_of cs

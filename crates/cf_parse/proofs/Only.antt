@@ -1,5 +1,6 @@
 -- A value whose meaning is of a kind is of the variant for that kind.
 use Rattle.std.proofs.Common.{◌≡◌, refl, ℕ, Bool, Option}
+use Rattle.std.specs.Prelude.{Box}
 use Rattle.std.specs.declared.alloc.Global.{Global}
 use Rattle.std.specs.declared.vec.Vec.{Vec}
 use Rattle.cf_tree.specs.declared.decls.CtorTree as ctors
@@ -18,7 +19,7 @@ use Rattle.cf_parse.specs.Meaning.{Sem}
 use Rattle.cf_parse.specs.Meaning as meant
 use Rattle.cf_parse.specs.Values.{sem}
 
-pub term_only : (s : Source) (v : Value) → Fits kind.Term (sem s v) → (t : Tree) × (v ≡ value.Term t)
+pub term_only : (s : Source) (v : Value) → Fits kind.Term (sem s v) → (t : Box Tree Global) × (v ≡ value.Term t)
 term_only s (value.Token at) h = elim h [ ]
 term_only s value.Nothing h = elim h [ ]
 term_only s (value.Term t) h = (t, refl)
@@ -102,7 +103,7 @@ argument_only s (value.Arms b bs) h = elim h [ ]
 argument_only s (value.Ctors c cs) h = elim h [ ]
 argument_only s (value.Decls d ds) h = elim h [ ]
 
-pub arm_only : (s : Source) (v : Value) → Fits kind.Arm (sem s v) → (b : Branch) × (v ≡ value.Arm b)
+pub arm_only : (s : Source) (v : Value) → Fits kind.Arm (sem s v) → (b : Box Branch Global) × (v ≡ value.Arm b)
 arm_only s (value.Token at) h = elim h [ ]
 arm_only s value.Nothing h = elim h [ ]
 arm_only s (value.Term t) h = elim h [ ]
@@ -123,7 +124,7 @@ arm_only s (value.Arms b bs) h = elim h [ ]
 arm_only s (value.Ctors c cs) h = elim h [ ]
 arm_only s (value.Decls d ds) h = elim h [ ]
 
-pub ctor_only : (s : Source) (v : Value) → Fits kind.Ctor (sem s v) → (c : ctors.CtorTree) × (v ≡ value.Ctor c)
+pub ctor_only : (s : Source) (v : Value) → Fits kind.Ctor (sem s v) → (c : Box ctors.CtorTree Global) × (v ≡ value.Ctor c)
 ctor_only s (value.Token at) h = elim h [ ]
 ctor_only s value.Nothing h = elim h [ ]
 ctor_only s (value.Term t) h = elim h [ ]
@@ -144,7 +145,7 @@ ctor_only s (value.Arms b bs) h = elim h [ ]
 ctor_only s (value.Ctors c cs) h = elim h [ ]
 ctor_only s (value.Decls d ds) h = elim h [ ]
 
-pub decl_only : (s : Source) (v : Value) → Fits kind.Decl (sem s v) → (d : Decl) × (v ≡ value.Decl d)
+pub decl_only : (s : Source) (v : Value) → Fits kind.Decl (sem s v) → (d : Box Decl Global) × (v ≡ value.Decl d)
 decl_only s (value.Token at) h = elim h [ ]
 decl_only s value.Nothing h = elim h [ ]
 decl_only s (value.Term t) h = elim h [ ]
@@ -247,7 +248,7 @@ tokens_none s v h never = by_cases v (tokens_only s v h) never
 -- nothing, or a list of this kind
 pub data TermsIs : Value → Type 0 where
   nothing : TermsIs value.Nothing
-  some : (t : Tree) (ts : Vec Tree Global) → TermsIs (value.Terms t ts)
+  some : (t : Box Tree Global) (ts : Vec Tree Global) → TermsIs (value.Terms t ts)
 
 pub terms_only : (s : Source) (v : Value) → Fits (kind.Many kind.Term) (sem s v) → TermsIs v
 terms_only s (value.Token at) h = elim h [ ]
@@ -270,10 +271,10 @@ terms_only s (value.Arms b bs) (more e m) = elim e [ ]
 terms_only s (value.Ctors c cs) (more e m) = elim e [ ]
 terms_only s (value.Decls d ds) (more e m) = elim e [ ]
 
-pub terms_none : (s : Source) (v : Value) → Fits (kind.Many kind.Term) (sem s v) → ((t : Tree) (ts : Vec Tree Global) → v ≡ value.Terms t ts → ⊥) → sem s v ≡ meant.nothing
+pub terms_none : (s : Source) (v : Value) → Fits (kind.Many kind.Term) (sem s v) → ((t : Box Tree Global) (ts : Vec Tree Global) → v ≡ value.Terms t ts → ⊥) → sem s v ≡ meant.nothing
 terms_none s v h never = by_cases v (terms_only s v h) never
   where
-    by_cases : (v : Value) → TermsIs v → ((t : Tree) (ts : Vec Tree Global) → v ≡ value.Terms t ts → ⊥) → sem s v ≡ meant.nothing
+    by_cases : (v : Value) → TermsIs v → ((t : Box Tree Global) (ts : Vec Tree Global) → v ≡ value.Terms t ts → ⊥) → sem s v ≡ meant.nothing
     by_cases _ TermsIs.nothing never = refl
     by_cases _ (TermsIs.some t ts) never = absurd (never t ts refl)
 
@@ -346,7 +347,7 @@ arguments_none s v h never = by_cases v (arguments_only s v h) never
 -- nothing, or a list of this kind
 pub data ArmsIs : Value → Type 0 where
   nothing : ArmsIs value.Nothing
-  some : (b : Branch) (bs : Vec Branch Global) → ArmsIs (value.Arms b bs)
+  some : (b : Box Branch Global) (bs : Vec Branch Global) → ArmsIs (value.Arms b bs)
 
 pub arms_only : (s : Source) (v : Value) → Fits (kind.Many kind.Arm) (sem s v) → ArmsIs v
 arms_only s (value.Token at) h = elim h [ ]
@@ -369,17 +370,17 @@ arms_only s (value.Arms b bs) h = ArmsIs.some b bs
 arms_only s (value.Ctors c cs) (more e m) = elim e [ ]
 arms_only s (value.Decls d ds) (more e m) = elim e [ ]
 
-pub arms_none : (s : Source) (v : Value) → Fits (kind.Many kind.Arm) (sem s v) → ((b : Branch) (bs : Vec Branch Global) → v ≡ value.Arms b bs → ⊥) → sem s v ≡ meant.nothing
+pub arms_none : (s : Source) (v : Value) → Fits (kind.Many kind.Arm) (sem s v) → ((b : Box Branch Global) (bs : Vec Branch Global) → v ≡ value.Arms b bs → ⊥) → sem s v ≡ meant.nothing
 arms_none s v h never = by_cases v (arms_only s v h) never
   where
-    by_cases : (v : Value) → ArmsIs v → ((b : Branch) (bs : Vec Branch Global) → v ≡ value.Arms b bs → ⊥) → sem s v ≡ meant.nothing
+    by_cases : (v : Value) → ArmsIs v → ((b : Box Branch Global) (bs : Vec Branch Global) → v ≡ value.Arms b bs → ⊥) → sem s v ≡ meant.nothing
     by_cases _ ArmsIs.nothing never = refl
     by_cases _ (ArmsIs.some b bs) never = absurd (never b bs refl)
 
 -- nothing, or a list of this kind
 pub data CtorsIs : Value → Type 0 where
   nothing : CtorsIs value.Nothing
-  some : (c : ctors.CtorTree) (cs : Vec (ctors.CtorTree) Global) → CtorsIs (value.Ctors c cs)
+  some : (c : Box ctors.CtorTree Global) (cs : Vec (ctors.CtorTree) Global) → CtorsIs (value.Ctors c cs)
 
 pub ctors_only : (s : Source) (v : Value) → Fits (kind.Many kind.Ctor) (sem s v) → CtorsIs v
 ctors_only s (value.Token at) h = elim h [ ]
@@ -402,17 +403,17 @@ ctors_only s (value.Arms b bs) (more e m) = elim e [ ]
 ctors_only s (value.Ctors c cs) h = CtorsIs.some c cs
 ctors_only s (value.Decls d ds) (more e m) = elim e [ ]
 
-pub ctors_none : (s : Source) (v : Value) → Fits (kind.Many kind.Ctor) (sem s v) → ((c : ctors.CtorTree) (cs : Vec (ctors.CtorTree) Global) → v ≡ value.Ctors c cs → ⊥) → sem s v ≡ meant.nothing
+pub ctors_none : (s : Source) (v : Value) → Fits (kind.Many kind.Ctor) (sem s v) → ((c : Box ctors.CtorTree Global) (cs : Vec (ctors.CtorTree) Global) → v ≡ value.Ctors c cs → ⊥) → sem s v ≡ meant.nothing
 ctors_none s v h never = by_cases v (ctors_only s v h) never
   where
-    by_cases : (v : Value) → CtorsIs v → ((c : ctors.CtorTree) (cs : Vec (ctors.CtorTree) Global) → v ≡ value.Ctors c cs → ⊥) → sem s v ≡ meant.nothing
+    by_cases : (v : Value) → CtorsIs v → ((c : Box ctors.CtorTree Global) (cs : Vec (ctors.CtorTree) Global) → v ≡ value.Ctors c cs → ⊥) → sem s v ≡ meant.nothing
     by_cases _ CtorsIs.nothing never = refl
     by_cases _ (CtorsIs.some c cs) never = absurd (never c cs refl)
 
 -- nothing, or a list of this kind
 pub data DeclsIs : Value → Type 0 where
   nothing : DeclsIs value.Nothing
-  some : (d : Decl) (ds : Vec Decl Global) → DeclsIs (value.Decls d ds)
+  some : (d : Box Decl Global) (ds : Vec Decl Global) → DeclsIs (value.Decls d ds)
 
 pub decls_only : (s : Source) (v : Value) → Fits (kind.Many kind.Decl) (sem s v) → DeclsIs v
 decls_only s (value.Token at) h = elim h [ ]
@@ -435,17 +436,17 @@ decls_only s (value.Arms b bs) (more e m) = elim e [ ]
 decls_only s (value.Ctors c cs) (more e m) = elim e [ ]
 decls_only s (value.Decls d ds) h = DeclsIs.some d ds
 
-pub decls_none : (s : Source) (v : Value) → Fits (kind.Many kind.Decl) (sem s v) → ((d : Decl) (ds : Vec Decl Global) → v ≡ value.Decls d ds → ⊥) → sem s v ≡ meant.nothing
+pub decls_none : (s : Source) (v : Value) → Fits (kind.Many kind.Decl) (sem s v) → ((d : Box Decl Global) (ds : Vec Decl Global) → v ≡ value.Decls d ds → ⊥) → sem s v ≡ meant.nothing
 decls_none s v h never = by_cases v (decls_only s v h) never
   where
-    by_cases : (v : Value) → DeclsIs v → ((d : Decl) (ds : Vec Decl Global) → v ≡ value.Decls d ds → ⊥) → sem s v ≡ meant.nothing
+    by_cases : (v : Value) → DeclsIs v → ((d : Box Decl Global) (ds : Vec Decl Global) → v ≡ value.Decls d ds → ⊥) → sem s v ≡ meant.nothing
     by_cases _ DeclsIs.nothing never = refl
     by_cases _ (DeclsIs.some d ds) never = absurd (never d ds refl)
 
 -- nothing, or a value of this kind
 pub data TermOrNot : Value → Type 0 where
   nothing : TermOrNot value.Nothing
-  some : (t : Tree) → TermOrNot (value.Term t)
+  some : (t : Box Tree Global) → TermOrNot (value.Term t)
 
 pub term_or_not : (s : Source) (v : Value) → Fits (kind.Maybe kind.Term) (sem s v) → TermOrNot v
 term_or_not s (value.Token at) (given e) = elim e [ ]
@@ -468,17 +469,17 @@ term_or_not s (value.Arms b bs) (given e) = elim e [ ]
 term_or_not s (value.Ctors c cs) (given e) = elim e [ ]
 term_or_not s (value.Decls d ds) (given e) = elim e [ ]
 
-pub term_or_not_none : (s : Source) (v : Value) → Fits (kind.Maybe kind.Term) (sem s v) → ((t : Tree) → v ≡ value.Term t → ⊥) → sem s v ≡ meant.nothing
+pub term_or_not_none : (s : Source) (v : Value) → Fits (kind.Maybe kind.Term) (sem s v) → ((t : Box Tree Global) → v ≡ value.Term t → ⊥) → sem s v ≡ meant.nothing
 term_or_not_none s v h never = by_cases v (term_or_not s v h) never
   where
-    by_cases : (v : Value) → TermOrNot v → ((t : Tree) → v ≡ value.Term t → ⊥) → sem s v ≡ meant.nothing
+    by_cases : (v : Value) → TermOrNot v → ((t : Box Tree Global) → v ≡ value.Term t → ⊥) → sem s v ≡ meant.nothing
     by_cases _ TermOrNot.nothing never = refl
     by_cases _ (TermOrNot.some t) never = absurd (never t refl)
 
 -- nothing, or a value of this kind
 pub data OntoOrNot : Value → Type 0 where
   nothing : OntoOrNot value.Nothing
-  some : (o : Bool) (t : Tree) → OntoOrNot (value.Onto o t)
+  some : (o : Bool) (t : Box Tree Global) → OntoOrNot (value.Onto o t)
 
 pub onto_or_not : (s : Source) (v : Value) → Fits (kind.Maybe kind.Onto) (sem s v) → OntoOrNot v
 onto_or_not s (value.Token at) (given e) = elim e [ ]
@@ -501,10 +502,10 @@ onto_or_not s (value.Arms b bs) (given e) = elim e [ ]
 onto_or_not s (value.Ctors c cs) (given e) = elim e [ ]
 onto_or_not s (value.Decls d ds) (given e) = elim e [ ]
 
-pub onto_or_not_none : (s : Source) (v : Value) → Fits (kind.Maybe kind.Onto) (sem s v) → ((o : Bool) (t : Tree) → v ≡ value.Onto o t → ⊥) → sem s v ≡ meant.nothing
+pub onto_or_not_none : (s : Source) (v : Value) → Fits (kind.Maybe kind.Onto) (sem s v) → ((o : Bool) (t : Box Tree Global) → v ≡ value.Onto o t → ⊥) → sem s v ≡ meant.nothing
 onto_or_not_none s v h never = by_cases v (onto_or_not s v h) never
   where
-    by_cases : (v : Value) → OntoOrNot v → ((o : Bool) (t : Tree) → v ≡ value.Onto o t → ⊥) → sem s v ≡ meant.nothing
+    by_cases : (v : Value) → OntoOrNot v → ((o : Bool) (t : Box Tree Global) → v ≡ value.Onto o t → ⊥) → sem s v ≡ meant.nothing
     by_cases _ OntoOrNot.nothing never = refl
     by_cases _ (OntoOrNot.some o t) never = absurd (never o t refl)
 

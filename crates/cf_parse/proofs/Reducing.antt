@@ -1,8 +1,8 @@
 -- A stack of meanings whose topmost ones are taken and make way for that of their phrase.
 use Rattle.std.proofs.Common.{◌≡◌, ◌∙◌, refl, ap, sym, ℕ, Bool, List, [], ◌∷◌, ◌++◌, drop, map, Option, Some, None}
+use Rattle.std.specs.Prelude.{Box}
+use Rattle.std.specs.declared.alloc.Global.{Global}
 use Rattle.cf_base.specs.declared.at.At.{At}
-use Rattle.cf_grammar.specs.declared.classes.Class.{Class}
-use Rattle.cf_grammar.specs.declared.classes.Class.TheVariants as class
 use Rattle.cf_tree.specs.declared.forms.Branch.{Branch}
 use Rattle.cf_tree.specs.declared.heads.Head.TheVariants as head
 use Rattle.cf_tree.specs.declared.forms.Definition.{Definition}
@@ -14,9 +14,9 @@ use Rattle.cf_parse.specs.Kinds as kind
 use Rattle.cf_parse.specs.Kinds.{Kind, Fits, AllFit}
 use Rattle.cf_parse.specs.Meaning.{Action, Sem, arms_in, binders_in, or_missing, place, type_or}
 use Rattle.cf_parse.specs.Meaning as meant
-use Rattle.cf_parse.specs.Standing.{IsName, IsPlace, front}
+use Rattle.cf_parse.specs.Standing.{IsName}
 use Rattle.cf_parse.specs.Tokens.{Token}
-use Rattle.cf_parse.specs.Values.{Taken, arm_of, binder_sem, listed, optional_term, term_of}
+use Rattle.cf_parse.specs.Values.{Taken, arm_of, binder_sem, listed, optional_term, term_of, tree_in}
 
 -- so many values were taken, one after the other, and what an action makes of their meanings takes their place
 pub of_one : (f : Action) (p : At) {j1 : Kind} {a0 a1 m : List Sem} {v1 x1 z : Sem} → AllFit (j1 ∷ []) a0 → Taken j1 a0 v1 a1 → (Fits j1 v1 → v1 ≡ x1) → m ≡ z ∷ a1 → z ≡ f p (x1 ∷ []) → m ≡ f p (firsts 1 a0) ∷ drop 1 a0
@@ -49,12 +49,12 @@ pub arms_listed : (bs : List Branch) → arms_in (listed (map arm_of bs)) ≡ br
 arms_listed [] = refl
 arms_listed (b ∷ bs) = ap (λ l. branch b.ctor (binders_of b.names.items) b.body.value l) (arms_listed bs)
 
-pub type_given : (p : At) (t : Option Tree) → type_or p (optional_term t) ≡ or_missing p t
+pub type_given : (p : At) (t : Option (Box Tree Global)) → type_or p (optional_term t) ≡ or_missing p (tree_in t)
 type_given p None = refl
 type_given p (Some t) = refl
 
 -- a case with its type and its arms
-pub cases_made : (p : At) (t u : Tree) (ty : Option Tree) (bs : List Branch) (k l m n : Sem) → u ≡ tree p (Plain head.Case) (part [] t (part [] (or_missing p ty) (branches bs))) → term_of u ≡ meant.cases p (k ∷ term_of t ∷ optional_term ty ∷ l ∷ m ∷ listed (map arm_of bs) ∷ n ∷ [])
+pub cases_made : (p : At) (t u : Tree) (ty : Option (Box Tree Global)) (bs : List Branch) (k l m n : Sem) → u ≡ tree p (Plain head.Case) (part [] t (part [] (or_missing p (tree_in ty)) (branches bs))) → term_of u ≡ meant.cases p (k ∷ term_of t ∷ optional_term ty ∷ l ∷ m ∷ listed (map arm_of bs) ∷ n ∷ [])
 cases_made p t u ty bs k l m n e = ap term_of e ∙ sym (λ i. meant.term (tree p (Plain head.Case) (part [] t (part [] (type_given p ty i) (arms_listed bs i)))))
 
 -- what a name token binds

@@ -1,7 +1,6 @@
 -- One step of building after another, from the last to the first.
-use Rattle.std.proofs.Common.{◌≡◌, ◌∙◌, refl, ap, sym, subst, arith, append_assoc, ℕ, zero, suc, ◌+◌, ◌-◌, ◌≤◌, ◌<◌, Bool, List, [], ◌∷◌, ◌++◌, drop, length, take, Result, Ok, Err}
+use Rattle.std.proofs.Common.{◌≡◌, ◌∙◌, refl, ap, sym, subst, arith, append_assoc, ℕ, suc, ◌+◌, ◌-◌, ◌≤◌, Bool, List, [], ◌∷◌, ◌++◌, drop, length, take, Result, Ok, Err}
 use Rattle.std.specs.Prelude.{IfOk}
-use Rattle.cf_base.specs.declared.at.At.{At}
 use Rattle.cf_grammar.specs.declared.productions.Production.{Production}
 use Rattle.cf_grammar.specs.declared.productions.Step.{Step}
 use Rattle.cf_grammar.specs.declared.productions.Step.TheVariants as step

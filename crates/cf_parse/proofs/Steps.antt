@@ -1,16 +1,12 @@
 -- How what stands at some tokens is told from its parts.
-use Rattle.std.proofs.Common.{◌≡◌, ◌∙◌, refl, ap, sym, subst, ℕ, Bool, true, false, List, [], ◌∷◌, Option, Some, None, slice_get}
-use Rattle.cf_base.specs.declared.at.At.{At}
+use Rattle.std.proofs.Common.{◌≡◌, refl, ap, sym, subst, ℕ, Bool, true, false, List, [], ◌∷◌, Option, Some, None, slice_get}
 use Rattle.cf_grammar.specs.Choosing.{which}
-use Rattle.cf_grammar.specs.Grammar.{rules, Takes, exact, any_name}
+use Rattle.cf_grammar.specs.Grammar.{rules, Takes}
 use Rattle.cf_grammar.specs.declared.classes.Class.{Class}
-use Rattle.cf_grammar.specs.declared.classes.Class.TheVariants as class
 use Rattle.cf_grammar.specs.declared.phrases.Phrase.{Phrase}
 use Rattle.cf_grammar.specs.declared.phrases.Symbol.{Symbol}
-use Rattle.cf_grammar.specs.declared.phrases.Symbol.TheVariants.{Is as is, AnyName as NAME, Phrase as a}
+use Rattle.cf_grammar.specs.declared.phrases.Symbol.TheVariants.{Phrase as a}
 use Rattle.cf_parse.specs.Meaning.{Sem, nothing, meaning, place}
-use Rattle.cf_parse.specs.Meaning as meant
-use Rattle.cf_parse.specs.Reads.{in_range}
 use Rattle.cf_parse.specs.Standing.{Stands, token, empty, phrase, StandAll, none, both, front, nullable}
 use Rattle.cf_parse.specs.Tokens.{Token}
 

@@ -4,7 +4,6 @@ use Rattle.std.specs.declared.alloc.Global.{Global}
 use Rattle.std.specs.declared.vec.Vec.{Vec}
 use Rattle.cf_base.specs.declared.at.At.{At}
 use Rattle.cf_lex.specs.declared.keywords.Keyword.{Keyword}
-use Rattle.cf_lex.specs.declared.keywords.Keyword.TheVariants as keyword
 use Rattle.cf_grammar.specs.declared.classes.Class.{Class}
 use Rattle.cf_grammar.specs.declared.classes.Class.TheVariants as class
 use Rattle.cf_grammar.specs.declared.productions.Production.TheVariants as by

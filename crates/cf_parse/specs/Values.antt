@@ -1,9 +1,7 @@
 -- What the values that the parser keeps stand for: meanings of phrases. A list is kept with its first item apart and the others last first.
-use Rattle.std.specs.Prelude.{ℕ, Bool, List, [], ◌∷◌, map, reverse, Option, Some, None, ◌≡◌}
+use Rattle.std.specs.Prelude.{ℕ, Bool, Box, List, [], ◌∷◌, map, reverse, Option, Some, None, ◌≡◌}
 use Rattle.std.specs.declared.alloc.Global.{Global}
 use Rattle.std.specs.declared.vec.Vec.{Vec}
-use Rattle.cf_base.specs.declared.at.At.{At}
-use Rattle.cf_grammar.specs.declared.productions.Production.{Production}
 use Rattle.cf_tree.specs.declared.decls.CtorTree as ctors
 use Rattle.cf_tree.specs.declared.decls.Decl.{Decl}
 use Rattle.cf_tree.specs.declared.forms.Branch.{Branch}
@@ -14,8 +12,8 @@ use Rattle.cf_parse.specs.declared.parts.Domain.{Domain}
 use Rattle.cf_parse.specs.declared.source.Source.{Source}
 use Rattle.cf_parse.specs.declared.values.Value.{Value}
 use Rattle.cf_parse.specs.declared.values.Value.TheVariants as value
-use Rattle.cf_parse.specs.Evaluation.{first_token, reduced}
-use Rattle.cf_parse.specs.Kinds.{Kind, Fits, AllFit, params}
+use Rattle.cf_parse.specs.Evaluation.{first_token}
+use Rattle.cf_parse.specs.Kinds.{Kind, Fits, AllFit}
 use Rattle.cf_parse.specs.Meaning.{Sem, also}
 use Rattle.cf_parse.specs.Meaning as meant
 use Rattle.cf_parse.specs.Steps.{from}
@@ -35,11 +33,16 @@ term_of t = meant.term t
 abbrev pub binder_sem : Option Text → Sem
 binder_sem b = meant.binder (binder_of b)
 
+-- the tree that is boxed, if one is
+abbrev pub tree_in : Option (Box Tree Global) → Option Tree
+tree_in None = None
+tree_in (Some t) = Some t.value
+
 abbrev pub domain_of : Domain → Sem
-domain_of d = meant.domain d.implicit (binder_of d.binder) d.ty
+domain_of d = meant.domain d.implicit (binder_of d.binder) (tree_in d.ty)
 
 abbrev pub argument_of : Argument → Sem
-argument_of u = meant.argument u.implicit u.term
+argument_of u = meant.argument u.implicit u.term.value
 
 abbrev pub arm_of : Branch → Sem
 arm_of b = meant.arm b.ctor (binders_of b.names.items) b.body.value
@@ -51,13 +54,13 @@ abbrev pub decl_sem : Decl → Sem
 decl_sem d = meant.decl (decl_of d)
 
 -- a part that may be left out
-abbrev pub optional_term : Option Tree → Sem
+abbrev pub optional_term : Option (Box Tree Global) → Sem
 optional_term None = meant.nothing
-optional_term (Some t) = meant.term t
+optional_term (Some t) = meant.term t.value
 
-abbrev pub optional_onto : Option (Bool × Tree) → Sem
+abbrev pub optional_onto : Option (Bool × Box Tree Global) → Sem
 optional_onto None = meant.nothing
-optional_onto (Some o) = meant.onto o.0 o.1
+optional_onto (Some o) = meant.onto o.0 o.1.value
 
 abbrev pub optional_brackets : Option (Vec Tree Global) → Sem
 optional_brackets None = meant.nothing
@@ -71,23 +74,23 @@ token_of s at = first_token s.prelude (from s at)
 abbrev pub sem : Source → Value → Sem
 sem s (value.Token at) = token_of s at
 sem s value.Nothing = meant.nothing
-sem s (value.Term t) = term_of t
+sem s (value.Term t) = term_of t.value
 sem s (value.Binder b) = binder_sem b
 sem s (value.Domain d) = domain_of d
 sem s (value.Argument u) = argument_of u
-sem s (value.Onto o t) = meant.onto o t
+sem s (value.Onto o t) = meant.onto o t.value
 sem s (value.Bracketed ts) = meant.bracketed ts.items
-sem s (value.Arm b) = arm_of b
-sem s (value.Ctor c) = ctor_sem c
-sem s (value.Decl d) = decl_sem d
+sem s (value.Arm b) = arm_of b.value
+sem s (value.Ctor c) = ctor_sem c.value
+sem s (value.Decl d) = decl_sem d.value
 sem s (value.Program p) = meant.program p
 sem s (value.Tokens n ns) = kept (token_of s) n ns.items
-sem s (value.Terms t ts) = kept term_of t ts.items
+sem s (value.Terms t ts) = kept term_of t.value ts.items
 sem s (value.Binders b bs) = kept binder_sem b bs.items
 sem s (value.Arguments u us) = kept argument_of u us.items
-sem s (value.Arms b bs) = kept arm_of b bs.items
-sem s (value.Ctors c cs) = kept ctor_sem c cs.items
-sem s (value.Decls d ds) = kept decl_sem d ds.items
+sem s (value.Arms b bs) = kept arm_of b.value bs.items
+sem s (value.Ctors c cs) = kept ctor_sem c.value cs.items
+sem s (value.Decls d ds) = kept decl_sem d.value ds.items
 
 -- the meanings of a stack of values, the top first
 abbrev pub sems : Source → Vec Value Global → List Sem

@@ -17,20 +17,22 @@ use cf_tree::{Node, Tree};
 use std::alloc::Global;
 
 // A term with one operand more.
-fn with_operand(alloc: Global, at: At, t: Tree, u: Tree) -> Result<Tree, OutOfMemory>
-    ensures { IfOk result (λ v. v ≡ meant.form at head.OApp (t ∷ u ∷ [])) }
+fn with_operand(alloc: Global, at: At, t: Box<Tree>, u: Tree) -> Result<Box<Tree>, OutOfMemory>
+    ensures { IfOk result (λ v. v.value ≡ meant.form at head.OApp (t.value ∷ u ∷ [])) }
 {
-    let t = Box::new(alloc, t)?;
     let u = Box::new(alloc, u)?;
-    Ok(Tree {
-        at,
-        node: Node::OApp(t, u),
-    })
+    let node = Node::OApp(t, u);
+    Ok(Box::new(alloc, Tree { at, node })?)
 }
 
 // A term with operands; the last one comes first.
-fn with_operands(alloc: Global, at: At, t: Tree, operands: Vec<Tree>) -> Result<Tree, OutOfMemory>
-    ensures { IfOk result (λ v. v ≡ meant.operands at t (listed (map term_of (reverse operands.items)))) }
+fn with_operands(
+    alloc: Global,
+    at: At,
+    t: Box<Tree>,
+    operands: Vec<Tree>,
+) -> Result<Box<Tree>, OutOfMemory>
+    ensures { IfOk result (λ v. v.value ≡ meant.operands at t.value (listed (map term_of (reverse operands.items)))) }
 {
     let mut t = t;
     let mut operands = operands;
@@ -41,29 +43,25 @@ fn with_operands(alloc: Global, at: At, t: Tree, operands: Vec<Tree>) -> Result<
 }
 
 // A term with one argument more.
-fn with_argument(alloc: Global, at: At, t: Tree, u: Argument) -> Result<Tree, OutOfMemory>
-    ensures { IfOk result (λ v. v ≡ meant.form at (head.App u.implicit) (t ∷ u.term ∷ [])) }
+fn with_argument(alloc: Global, at: At, t: Box<Tree>, u: Argument) -> Result<Box<Tree>, OutOfMemory>
+    ensures { IfOk result (λ v. v.value ≡ meant.form at (head.App u.implicit) (t.value ∷ u.term.value ∷ [])) }
 {
-    let function = Box::new(alloc, t)?;
-    let argument = Box::new(alloc, u.term)?;
-    Ok(Tree {
-        at,
-        node: Node::App {
-            implicit: u.implicit,
-            function,
-            argument,
-        },
-    })
+    let node = Node::App {
+        implicit: u.implicit,
+        function: t,
+        argument: u.term,
+    };
+    Ok(Box::new(alloc, Tree { at, node })?)
 }
 
 // A term with arguments; the last one comes first.
 fn with_arguments(
     alloc: Global,
     at: At,
-    t: Tree,
+    t: Box<Tree>,
     arguments: Vec<Argument>,
-) -> Result<Tree, OutOfMemory>
-    ensures { IfOk result (λ v. v ≡ meant.arguments at t (listed (map argument_of (reverse arguments.items)))) }
+) -> Result<Box<Tree>, OutOfMemory>
+    ensures { IfOk result (λ v. v.value ≡ meant.arguments at t.value (listed (map argument_of (reverse arguments.items)))) }
 {
     let mut t = t;
     let mut arguments = arguments;
@@ -79,7 +77,7 @@ impl Source<'_> {
         requires { AllFit (params by.Chain) (sems self.now values.old) }
         ensures { IfOk result (λ _. sems self.now values.new ≡ reduced by.Chain place (sems self.now values.old)) }
     {
-        let first = take_term(values);
+        let first = take_term(values, self.alloc)?;
         let operands = pop(values).terms(self.alloc)?;
         let t = with_operands(self.alloc, place, first, operands)?;
         push(values, Value::Term(t))?;
@@ -91,7 +89,7 @@ impl Source<'_> {
         requires { AllFit (params by.Application) (sems self.now values.old) }
         ensures { IfOk result (λ _. sems self.now values.new ≡ reduced by.Application place (sems self.now values.old)) }
     {
-        let function = take_term(values);
+        let function = take_term(values, self.alloc)?;
         let arguments = pop(values).arguments(self.alloc)?;
         let t = with_arguments(self.alloc, place, function, arguments)?;
         push(values, Value::Term(t))?;
@@ -103,7 +101,7 @@ impl Source<'_> {
         requires { AllFit (params by.ExplicitArgument) (sems self.now values.old) }
         ensures { IfOk result (λ _. sems self.now values.new ≡ reduced by.ExplicitArgument place (sems self.now values.old)) }
     {
-        let term = take_term(values);
+        let term = take_term(values, self.alloc)?;
         let argument = Argument {
             implicit: false,
             term,
@@ -118,7 +116,7 @@ impl Source<'_> {
         ensures { IfOk result (λ _. sems self.now values.new ≡ reduced by.ImplicitArgument place (sems self.now values.old)) }
     {
         pop(values);
-        let term = take_term(values);
+        let term = take_term(values, self.alloc)?;
         pop(values);
         let argument = Argument {
             implicit: true,

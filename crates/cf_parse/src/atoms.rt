@@ -35,20 +35,16 @@ fn named_form(name: Named, params: Option<Vec<Tree>>) -> Node
 fn parenthesized(
     alloc: Global,
     at: At,
-    first: Tree,
-    second: Option<Tree>,
-) -> Result<Tree, OutOfMemory>
-    ensures { IfOk result (λ t. (k : meant.Sem) (vs : List meant.Sem) → meant.term t ≡ meant.enclosed at (k ∷ meant.term first ∷ optional_term second ∷ vs)) }
+    first: Box<Tree>,
+    second: Option<Box<Tree>>,
+) -> Result<Box<Tree>, OutOfMemory>
+    ensures { IfOk result (λ t. (k : meant.Sem) (vs : List meant.Sem) → meant.term t.value ≡ meant.enclosed at (k ∷ meant.term first.value ∷ optional_term second ∷ vs)) }
 {
     match second {
         Some(second) => {
             let ty = Box::new(alloc, missing(at))?;
-            let first = Box::new(alloc, first)?;
-            let second = Box::new(alloc, second)?;
-            Ok(Tree {
-                at,
-                node: Node::Pair(ty, first, second),
-            })
+            let node = Node::Pair(ty, first, second);
+            Ok(Box::new(alloc, Tree { at, node })?)
         }
         None => Ok(first),
     }
@@ -61,7 +57,7 @@ impl Source<'_> {
         ensures { IfOk result (λ _. sems self.now values.new ≡ reduced by.Constant place (sems self.now values.old)) }
     {
         let word = self.take_word(values);
-        put_form(values, place, with_none(word))?;
+        put_form(values, self.alloc, place, with_none(word))?;
         Ok(())
     }
 
@@ -71,8 +67,8 @@ impl Source<'_> {
         ensures { IfOk result (λ _. sems self.now values.new ≡ reduced by.OneAtom place (sems self.now values.old)) }
     {
         let word = self.take_word(values);
-        let t = Box::new(self.alloc, take_term(values))?;
-        put_form(values, place, with_one(word, t))?;
+        let t = take_term(values, self.alloc)?;
+        put_form(values, self.alloc, place, with_one(word, t))?;
         Ok(())
     }
 
@@ -82,9 +78,9 @@ impl Source<'_> {
         ensures { IfOk result (λ _. sems self.now values.new ≡ reduced by.TwoAtoms place (sems self.now values.old)) }
     {
         let word = self.take_word(values);
-        let t = Box::new(self.alloc, take_term(values))?;
-        let u = Box::new(self.alloc, take_term(values))?;
-        put_form(values, place, with_two(word, t, u))?;
+        let t = take_term(values, self.alloc)?;
+        let u = take_term(values, self.alloc)?;
+        put_form(values, self.alloc, place, with_two(word, t, u))?;
         Ok(())
     }
 
@@ -94,10 +90,10 @@ impl Source<'_> {
         ensures { IfOk result (λ _. sems self.now values.new ≡ reduced by.ThreeAtoms place (sems self.now values.old)) }
     {
         let word = self.take_word(values);
-        let s = Box::new(self.alloc, take_term(values))?;
-        let t = Box::new(self.alloc, take_term(values))?;
-        let u = Box::new(self.alloc, take_term(values))?;
-        put_form(values, place, with_three(word, s, t, u))?;
+        let s = take_term(values, self.alloc)?;
+        let t = take_term(values, self.alloc)?;
+        let u = take_term(values, self.alloc)?;
+        put_form(values, self.alloc, place, with_three(word, s, t, u))?;
         Ok(())
     }
 
@@ -107,11 +103,11 @@ impl Source<'_> {
         ensures { IfOk result (λ _. sems self.now values.new ≡ reduced by.FourAtoms place (sems self.now values.old)) }
     {
         let word = self.take_word(values);
-        let s = Box::new(self.alloc, take_term(values))?;
-        let t = Box::new(self.alloc, take_term(values))?;
-        let u = Box::new(self.alloc, take_term(values))?;
-        let v = Box::new(self.alloc, take_term(values))?;
-        put_form(values, place, with_four(word, s, t, u, v))?;
+        let s = take_term(values, self.alloc)?;
+        let t = take_term(values, self.alloc)?;
+        let u = take_term(values, self.alloc)?;
+        let v = take_term(values, self.alloc)?;
+        put_form(values, self.alloc, place, with_four(word, s, t, u, v))?;
         Ok(())
     }
 
@@ -122,7 +118,7 @@ impl Source<'_> {
     {
         let name = self.take_named(values)?;
         let params = take_brackets(values);
-        put_form(values, place, named_form(name, params))?;
+        put_form(values, self.alloc, place, named_form(name, params))?;
         Ok(())
     }
 
@@ -132,7 +128,7 @@ impl Source<'_> {
         ensures { IfOk result (λ _. sems self.now values.new ≡ reduced by.Literal place (sems self.now values.old)) }
     {
         let at = take_token(values);
-        put_form(values, place, Node::Lit(self.whole(at)))?;
+        put_form(values, self.alloc, place, Node::Lit(self.whole(at)))?;
         Ok(())
     }
 
@@ -142,7 +138,7 @@ impl Source<'_> {
         ensures { IfOk result (λ _. sems self.now values.new ≡ reduced by.Numeral place (sems self.now values.old)) }
     {
         let at = take_token(values);
-        put_form(values, place, Node::NatLit(self.natlit(at)))?;
+        put_form(values, self.alloc, place, Node::NatLit(self.natlit(at)))?;
         Ok(())
     }
 
@@ -162,7 +158,7 @@ impl Source<'_> {
             params,
             fields,
         };
-        put_form(values, place, node)?;
+        put_form(values, self.alloc, place, node)?;
         Ok(())
     }
 
@@ -172,7 +168,7 @@ impl Source<'_> {
         ensures { IfOk result (λ _. sems self.now values.new ≡ reduced by.Enclosed place (sems self.now values.old)) }
     {
         pop(values);
-        let first = take_term(values);
+        let first = take_term(values, self.alloc)?;
         let second = take_optional_term(values);
         pop(values);
         let t = parenthesized(self.alloc, place, first, second)?;
@@ -186,9 +182,9 @@ impl Source<'_> {
         ensures { IfOk result (λ _. sems self.now values.new ≡ reduced by.Quote place (sems self.now values.old)) }
     {
         pop(values);
-        let t = Box::new(self.alloc, take_term(values))?;
+        let t = take_term(values, self.alloc)?;
         pop(values);
-        put_form(values, place, Node::Quote(t))?;
+        put_form(values, self.alloc, place, Node::Quote(t))?;
         Ok(())
     }
 
@@ -198,8 +194,8 @@ impl Source<'_> {
         ensures { IfOk result (λ _. sems self.now values.new ≡ reduced by.Splice place (sems self.now values.old)) }
     {
         pop(values);
-        let t = Box::new(self.alloc, take_term(values))?;
-        put_form(values, place, Node::Splice(t))?;
+        let t = take_term(values, self.alloc)?;
+        put_form(values, self.alloc, place, Node::Splice(t))?;
         Ok(())
     }
 
@@ -209,8 +205,8 @@ impl Source<'_> {
         ensures { IfOk result (λ _. sems self.now values.new ≡ reduced by.Lift place (sems self.now values.old)) }
     {
         pop(values);
-        let t = Box::new(self.alloc, take_term(values))?;
-        put_form(values, place, Node::Lift(t))?;
+        let t = take_term(values, self.alloc)?;
+        put_form(values, self.alloc, place, Node::Lift(t))?;
         Ok(())
     }
 
@@ -220,7 +216,7 @@ impl Source<'_> {
         ensures { IfOk result (λ _. sems self.now values.new ≡ reduced by.Hole place (sems self.now values.old)) }
     {
         pop(values);
-        put_form(values, place, Node::Hole)?;
+        put_form(values, self.alloc, place, Node::Hole)?;
         Ok(())
     }
 

@@ -20,7 +20,7 @@ impl Source<'_> {
         pop(values);
         let binder = pop(values).binder();
         pop(values);
-        let ty = pop(values).term();
+        let ty = pop(values).term(self.alloc)?;
         pop(values);
         let domain = Domain {
             implicit: false,
@@ -39,7 +39,7 @@ impl Source<'_> {
         pop(values);
         let binder = pop(values).binder();
         pop(values);
-        let ty = pop(values).term();
+        let ty = pop(values).term(self.alloc)?;
         pop(values);
         let domain = Domain {
             implicit: true,

@@ -61,7 +61,7 @@ impl Source<'_> {
     {
         if let Value::Decl(first) = pop(values) {
             let mut decls = pop(values).decls(self.alloc)?;
-            decls.push(first)?;
+            decls.push(Box::into_inner(first))?;
             decls.reverse();
             let program = Program {
                 explicit: false,
@@ -95,17 +95,19 @@ impl Source<'_> {
         name: usize,
         params: Vec<usize>,
         ctors: Vec<CtorTree>,
-    ) -> Result<Decl, OutOfMemory>
-        ensures { IfOk result (λ d. (p : places.At) (k l m : Sem) → Fits kind.Name (token_of self.now name) → Fits (kind.Many kind.Name) (listed (map (token_of self.now) (reverse params.items))) → decl_sem d ≡ meant.data_decl p (k ∷ token_of self.now name ∷ listed (map (token_of self.now) (reverse params.items)) ∷ l ∷ listed (map ctor_sem (reverse ctors.items)) ∷ m ∷ [])) }
+    ) -> Result<Box<Decl>, OutOfMemory>
+        ensures { IfOk result (λ d. (p : places.At) (k l m : Sem) → Fits kind.Name (token_of self.now name) → Fits (kind.Many kind.Name) (listed (map (token_of self.now) (reverse params.items))) → decl_sem d.value ≡ meant.data_decl p (k ∷ token_of self.now name ∷ listed (map (token_of self.now) (reverse params.items)) ∷ l ∷ listed (map ctor_sem (reverse ctors.items)) ∷ m ∷ [])) }
     {
         let mut ctors = ctors;
         ctors.reverse();
-        Ok(Decl::DataD {
+        let decl = Decl::DataD {
             at: self.place(name),
             name: self.text(name)?,
             params: self.texts(params)?,
             ctors,
-        })
+        };
+        let decl = Box::new(self.alloc, decl)?;
+        Ok(decl)
     }
 
     // The names with these numbers, which have the last one first.
@@ -128,9 +130,9 @@ impl Source<'_> {
         pop(values);
         let name = pop(values).token();
         pop(values);
-        let ty = pop(values).term();
+        let ty = pop(values).term(self.alloc)?;
         pop(values);
-        let body = pop(values).term();
+        let body = pop(values).term(self.alloc)?;
         pop(values);
         let decl = self.meta_of(name, ty, body)?;
         push(values, Value::Decl(decl))?;
@@ -138,15 +140,17 @@ impl Source<'_> {
     }
 
     // A definition at the meta level: its name, its type and what it stands for.
-    fn meta_of(&self, name: usize, ty: Tree, body: Tree) -> Result<Decl, OutOfMemory>
-        ensures { IfOk result (λ d. (p : places.At) (k l m n : Sem) → Fits kind.Name (token_of self.now name) → decl_sem d ≡ meant.meta_decl p (k ∷ token_of self.now name ∷ l ∷ term_of ty ∷ m ∷ term_of body ∷ n ∷ [])) }
+    fn meta_of(&self, name: usize, ty: Box<Tree>, body: Box<Tree>) -> Result<Box<Decl>, OutOfMemory>
+        ensures { IfOk result (λ d. (p : places.At) (k l m n : Sem) → Fits kind.Name (token_of self.now name) → decl_sem d.value ≡ meant.meta_decl p (k ∷ token_of self.now name ∷ l ∷ term_of ty.value ∷ m ∷ term_of body.value ∷ n ∷ [])) }
     {
-        Ok(Decl::MetaD {
+        let decl = Decl::MetaD {
             at: self.place(name),
             name: self.text(name)?,
-            ty,
-            body,
-        })
+            ty: Box::into_inner(ty),
+            body: Box::into_inner(body),
+        };
+        let decl = Box::new(self.alloc, decl)?;
+        Ok(decl)
     }
 
     // `x : a := t;`
@@ -156,9 +160,9 @@ impl Source<'_> {
     {
         let name = pop(values).token();
         pop(values);
-        let ty = pop(values).term();
+        let ty = pop(values).term(self.alloc)?;
         pop(values);
-        let body = pop(values).term();
+        let body = pop(values).term(self.alloc)?;
         pop(values);
         let decl = self.object_of(name, ty, body)?;
         push(values, Value::Decl(decl))?;
@@ -166,15 +170,22 @@ impl Source<'_> {
     }
 
     // A definition at the object level: its name, its type and what it stands for.
-    fn object_of(&self, name: usize, ty: Tree, body: Tree) -> Result<Decl, OutOfMemory>
-        ensures { IfOk result (λ d. (p : places.At) (k l m : Sem) → Fits kind.Name (token_of self.now name) → decl_sem d ≡ meant.object_decl p (token_of self.now name ∷ k ∷ term_of ty ∷ l ∷ term_of body ∷ m ∷ [])) }
+    fn object_of(
+        &self,
+        name: usize,
+        ty: Box<Tree>,
+        body: Box<Tree>,
+    ) -> Result<Box<Decl>, OutOfMemory>
+        ensures { IfOk result (λ d. (p : places.At) (k l m : Sem) → Fits kind.Name (token_of self.now name) → decl_sem d.value ≡ meant.object_decl p (token_of self.now name ∷ k ∷ term_of ty.value ∷ l ∷ term_of body.value ∷ m ∷ [])) }
     {
-        Ok(Decl::ObjectD {
+        let decl = Decl::ObjectD {
             at: self.place(name),
             name: self.text(name)?,
-            ty,
-            body,
-        })
+            ty: Box::into_inner(ty),
+            body: Box::into_inner(body),
+        };
+        let decl = Box::new(self.alloc, decl)?;
+        Ok(decl)
     }
 
     // `(a : ValTy)`: a parameter is its name.
@@ -206,15 +217,17 @@ impl Source<'_> {
     }
 
     // A constructor: its name and the types of its fields, the last one first.
-    fn ctor_of(&self, name: usize, fields: Vec<Tree>) -> Result<CtorTree, OutOfMemory>
-        ensures { IfOk result (λ c. (p : places.At) (k l : Sem) → Fits kind.Name (token_of self.now name) → ctor_sem c ≡ meant.a_ctor p (token_of self.now name ∷ k ∷ listed (map term_of (reverse fields.items)) ∷ l ∷ [])) }
+    fn ctor_of(&self, name: usize, fields: Vec<Tree>) -> Result<Box<CtorTree>, OutOfMemory>
+        ensures { IfOk result (λ c. (p : places.At) (k l : Sem) → Fits kind.Name (token_of self.now name) → ctor_sem c.value ≡ meant.a_ctor p (token_of self.now name ∷ k ∷ listed (map term_of (reverse fields.items)) ∷ l ∷ [])) }
     {
         let mut fields = fields;
         fields.reverse();
-        Ok(CtorTree {
+        let ctor = CtorTree {
             at: self.place(name),
             name: self.text(name)?,
             fields,
-        })
+        };
+        let ctor = Box::new(self.alloc, ctor)?;
+        Ok(ctor)
     }
 }

@@ -64,7 +64,7 @@ impl Source<'_> {
         requires { AllFit (params by.FirstTerm) (sems self.now values.old) }
         ensures { IfOk result (λ _. sems self.now values.new ≡ reduced by.FirstTerm place (sems self.now values.old)) }
     {
-        let first = pop(values).term();
+        let first = pop(values).term(self.alloc)?;
         let others = pop(values).terms(self.alloc)?;
         push(values, Value::Terms(first, others))?;
         Ok(())
@@ -76,7 +76,7 @@ impl Source<'_> {
         ensures { IfOk result (λ _. sems self.now values.new ≡ reduced by.NextTerm place (sems self.now values.old)) }
     {
         pop(values);
-        let first = pop(values).term();
+        let first = pop(values).term(self.alloc)?;
         let others = pop(values).terms(self.alloc)?;
         push(values, Value::Terms(first, others))?;
         Ok(())

@@ -1,23 +1,26 @@
 // Parts of terms that are no terms.
-ghost use Rattle.std.specs.Prelude.{◌≡◌};
+ghost use Rattle.std.specs.Prelude.{◌≡◌, IfOk};
 ghost use Rattle.cf_parse.specs.Meaning.{missing, or_missing};
+ghost use Rattle.cf_parse.specs.Values.{tree_in};
 
+use crate::ends::OutOfMemory;
 use cf_base::At;
 use cf_tree::{Node, Tree};
+use std::alloc::Global;
 
 // A binder, with its type if it is written.
 #[derive(Drop)]
 pub(crate) struct Domain {
     pub implicit: bool,
     pub binder: Option<String>,
-    pub ty: Option<Tree>,
+    pub ty: Option<Box<Tree>>,
 }
 
 // An argument.
 #[derive(Drop)]
 pub(crate) struct Argument {
     pub implicit: bool,
-    pub term: Tree,
+    pub term: Box<Tree>,
 }
 
 // What binds a variable to what it stands for: `mlet`, `let` or `letrec`.
@@ -39,12 +42,16 @@ pub(crate) fn missing(at: At) -> Tree
 }
 
 // The type, or that it is missing.
-pub(crate) fn or_missing(at: At, ty: Option<Tree>) -> Tree
-    ensures { result ≡ or_missing at ty }
+pub(crate) fn or_missing(
+    alloc: Global,
+    at: At,
+    ty: Option<Box<Tree>>,
+) -> Result<Box<Tree>, OutOfMemory>
+    ensures { IfOk result (λ t. t.value ≡ or_missing at (tree_in ty)) }
 {
     match ty {
-        Some(ty) => ty,
-        None => missing(at),
+        Some(ty) => Ok(ty),
+        None => Ok(Box::new(alloc, missing(at))?),
     }
 }
 

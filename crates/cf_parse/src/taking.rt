@@ -31,14 +31,15 @@ pub(crate) fn take_token(values: &mut Vec<Value>) -> usize
 }
 
 // Takes a term.
-pub(crate) fn take_term(values: &mut Vec<Value>) -> Tree
-    ensures { (s : source.Source) → Taken kind.Term (sems s values.old) (term_of result) (sems s values.new) }
+pub(crate) fn take_term(values: &mut Vec<Value>, alloc: Global) -> Result<Box<Tree>, OutOfMemory>
+    ensures { IfOk result (λ t. (s : source.Source) → Taken kind.Term (sems s values.old) (term_of t.value) (sems s values.new)) }
 {
-    pop(values).term()
+    let term = pop(values).term(alloc)?;
+    Ok(term)
 }
 
 // Takes a term that may be left out.
-pub(crate) fn take_optional_term(values: &mut Vec<Value>) -> Option<Tree>
+pub(crate) fn take_optional_term(values: &mut Vec<Value>) -> Option<Box<Tree>>
     ensures { (s : source.Source) → Taken (kind.Maybe kind.Term) (sems s values.old) (optional_term result) (sems s values.new) }
 {
     pop(values).optional_term()
@@ -61,10 +62,16 @@ pub(crate) fn take_terms(values: &mut Vec<Value>, alloc: Global) -> Result<Vec<T
 }
 
 // Puts a form at a place on top.
-pub(crate) fn put_form(values: &mut Vec<Value>, at: At, node: Node) -> Result<(), OutOfMemory>
+pub(crate) fn put_form(
+    values: &mut Vec<Value>,
+    alloc: Global,
+    at: At,
+    node: Node,
+) -> Result<(), OutOfMemory>
     ensures { IfOk result (λ _. (s : source.Source) → sems s values.new ≡ meant.term (tree_of at node) ∷ sems s values.old) }
 {
-    push(values, Value::Term(Tree { at, node }))?;
+    let form = Box::new(alloc, Tree { at, node })?;
+    push(values, Value::Term(form))?;
     Ok(())
 }
 

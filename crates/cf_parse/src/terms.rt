@@ -8,7 +8,7 @@ ghost use Rattle.cf_parse.specs.Evaluation.{reduced};
 ghost use Rattle.cf_parse.specs.Kinds.{AllFit, params};
 ghost use Rattle.cf_parse.specs.Meaning.{Sem, or_missing};
 ghost use Rattle.cf_parse.specs.Meaning as meant;
-ghost use Rattle.cf_parse.specs.Values.{arm_of, binder_sem, domain_of, optional_onto, sems, term_of};
+ghost use Rattle.cf_parse.specs.Values.{arm_of, binder_sem, domain_of, optional_onto, sems, term_of, tree_in};
 
 use crate::ends::OutOfMemory;
 use crate::parts::{Domain, or_missing};
@@ -19,30 +19,40 @@ use cf_tree::{Branch, Definition, Named, Node, Tree};
 use std::alloc::Global;
 
 // A function of the meta language.
-fn lambda_tree(alloc: Global, at: At, domain: Domain, body: Tree) -> Result<Tree, OutOfMemory>
-    ensures { IfOk result (λ t. (k l : Sem) → term_of t ≡ meant.lambda at (k ∷ domain_of domain ∷ l ∷ term_of body ∷ [])) }
+fn lambda_tree(
+    alloc: Global,
+    at: At,
+    domain: Domain,
+    body: Box<Tree>,
+) -> Result<Box<Tree>, OutOfMemory>
+    ensures { IfOk result (λ t. (k l : Sem) → term_of t.value ≡ meant.lambda at (k ∷ domain_of domain ∷ l ∷ term_of body.value ∷ [])) }
 {
-    let ty = or_missing(at, domain.ty);
+    let ty = or_missing(alloc, at, domain.ty)?;
     let node = Node::Lam {
         implicit: domain.implicit,
         binder: domain.binder,
-        domain: Box::new(alloc, ty)?,
-        body: Box::new(alloc, body)?,
+        domain: ty,
+        body,
     };
-    Ok(Tree { at, node })
+    Ok(Box::new(alloc, Tree { at, node })?)
 }
 
 // A function of the object language.
-fn function_tree(alloc: Global, at: At, domain: Domain, body: Tree) -> Result<Tree, OutOfMemory>
-    ensures { IfOk result (λ t. (k l : Sem) → term_of t ≡ meant.function at (k ∷ domain_of domain ∷ l ∷ term_of body ∷ [])) }
+fn function_tree(
+    alloc: Global,
+    at: At,
+    domain: Domain,
+    body: Box<Tree>,
+) -> Result<Box<Tree>, OutOfMemory>
+    ensures { IfOk result (λ t. (k l : Sem) → term_of t.value ≡ meant.function at (k ∷ domain_of domain ∷ l ∷ term_of body.value ∷ [])) }
 {
-    let ty = or_missing(at, domain.ty);
+    let ty = or_missing(alloc, at, domain.ty)?;
     let node = Node::OLam {
         binder: domain.binder,
-        domain: Box::new(alloc, ty)?,
-        body: Box::new(alloc, body)?,
+        domain: ty,
+        body,
     };
-    Ok(Tree { at, node })
+    Ok(Box::new(alloc, Tree { at, node })?)
 }
 
 // A type of functions.
@@ -50,18 +60,18 @@ fn function_type_tree(
     alloc: Global,
     at: At,
     domain: Domain,
-    codomain: Tree,
-) -> Result<Tree, OutOfMemory>
-    ensures { IfOk result (λ t. (k l : Sem) → term_of t ≡ meant.function_type at (k ∷ domain_of domain ∷ l ∷ term_of codomain ∷ [])) }
+    codomain: Box<Tree>,
+) -> Result<Box<Tree>, OutOfMemory>
+    ensures { IfOk result (λ t. (k l : Sem) → term_of t.value ≡ meant.function_type at (k ∷ domain_of domain ∷ l ∷ term_of codomain.value ∷ [])) }
 {
-    let ty = or_missing(at, domain.ty);
+    let ty = or_missing(alloc, at, domain.ty)?;
     let node = Node::Pi {
         implicit: domain.implicit,
         binder: domain.binder,
-        domain: Box::new(alloc, ty)?,
-        codomain: Box::new(alloc, codomain)?,
+        domain: ty,
+        codomain,
     };
-    Ok(Tree { at, node })
+    Ok(Box::new(alloc, Tree { at, node })?)
 }
 
 // A type of pairs.
@@ -69,17 +79,17 @@ fn pair_type_tree(
     alloc: Global,
     at: At,
     binder: Option<String>,
-    first: Tree,
-    second: Tree,
-) -> Result<Tree, OutOfMemory>
-    ensures { IfOk result (λ t. (k l m n o : Sem) → term_of t ≡ meant.pair_type at (k ∷ l ∷ binder_sem binder ∷ m ∷ term_of first ∷ n ∷ o ∷ term_of second ∷ [])) }
+    first: Box<Tree>,
+    second: Box<Tree>,
+) -> Result<Box<Tree>, OutOfMemory>
+    ensures { IfOk result (λ t. (k l m n o : Sem) → term_of t.value ≡ meant.pair_type at (k ∷ l ∷ binder_sem binder ∷ m ∷ term_of first.value ∷ n ∷ o ∷ term_of second.value ∷ [])) }
 {
     let node = Node::Sig {
         binder,
-        first: Box::new(alloc, first)?,
-        second: Box::new(alloc, second)?,
+        first,
+        second,
     };
-    Ok(Tree { at, node })
+    Ok(Box::new(alloc, Tree { at, node })?)
 }
 
 // A definition of the meta language.
@@ -87,19 +97,19 @@ fn meta_let_tree(
     alloc: Global,
     at: At,
     binder: Option<String>,
-    ty: Tree,
-    value: Tree,
-    body: Tree,
-) -> Result<Tree, OutOfMemory>
-    ensures { IfOk result (λ t. (k l m n : Sem) → term_of t ≡ meant.definition head.Let at (k ∷ binder_sem binder ∷ l ∷ term_of ty ∷ m ∷ term_of value ∷ n ∷ term_of body ∷ [])) }
+    ty: Box<Tree>,
+    value: Box<Tree>,
+    body: Box<Tree>,
+) -> Result<Box<Tree>, OutOfMemory>
+    ensures { IfOk result (λ t. (k l m n : Sem) → term_of t.value ≡ meant.definition head.Let at (k ∷ binder_sem binder ∷ l ∷ term_of ty.value ∷ m ∷ term_of value.value ∷ n ∷ term_of body.value ∷ [])) }
 {
     let node = Node::Let {
         binder,
-        ty: Box::new(alloc, ty)?,
-        value: Box::new(alloc, value)?,
-        body: Box::new(alloc, body)?,
+        ty,
+        value,
+        body,
     };
-    Ok(Tree { at, node })
+    Ok(Box::new(alloc, Tree { at, node })?)
 }
 
 // A definition of the object language.
@@ -107,19 +117,19 @@ fn value_let_tree(
     alloc: Global,
     at: At,
     binder: Option<String>,
-    ty: Tree,
-    value: Tree,
-    body: Tree,
-) -> Result<Tree, OutOfMemory>
-    ensures { IfOk result (λ t. (k l m n : Sem) → term_of t ≡ meant.definition head.LetV at (k ∷ binder_sem binder ∷ l ∷ term_of ty ∷ m ∷ term_of value ∷ n ∷ term_of body ∷ [])) }
+    ty: Box<Tree>,
+    value: Box<Tree>,
+    body: Box<Tree>,
+) -> Result<Box<Tree>, OutOfMemory>
+    ensures { IfOk result (λ t. (k l m n : Sem) → term_of t.value ≡ meant.definition head.LetV at (k ∷ binder_sem binder ∷ l ∷ term_of ty.value ∷ m ∷ term_of value.value ∷ n ∷ term_of body.value ∷ [])) }
 {
     let node = Node::LetV {
         binder,
-        ty: Box::new(alloc, ty)?,
-        value: Box::new(alloc, value)?,
-        body: Box::new(alloc, body)?,
+        ty,
+        value,
+        body,
     };
-    Ok(Tree { at, node })
+    Ok(Box::new(alloc, Tree { at, node })?)
 }
 
 // A recursive definition.
@@ -127,42 +137,38 @@ fn recursion_tree(
     alloc: Global,
     at: At,
     binder: Option<String>,
-    ty: Tree,
-    value: Tree,
-    body: Tree,
-) -> Result<Tree, OutOfMemory>
-    ensures { IfOk result (λ t. (k l m n : Sem) → term_of t ≡ meant.recursion at (k ∷ binder_sem binder ∷ l ∷ term_of ty ∷ m ∷ term_of value ∷ n ∷ term_of body ∷ [])) }
+    ty: Box<Tree>,
+    value: Box<Tree>,
+    body: Box<Tree>,
+) -> Result<Box<Tree>, OutOfMemory>
+    ensures { IfOk result (λ t. (k l m n : Sem) → term_of t.value ≡ meant.recursion at (k ∷ binder_sem binder ∷ l ∷ term_of ty.value ∷ m ∷ term_of value.value ∷ n ∷ term_of body.value ∷ [])) }
 {
-    let ty = Box::new(alloc, ty)?;
-    let value = Box::new(alloc, value)?;
-    let body = Box::new(alloc, body)?;
     let definition = Definition { binder, ty, value };
     let mut definitions = Vec::new(alloc);
     definitions.push(definition)?;
     let node = Node::LetRec { definitions, body };
-    Ok(Tree { at, node })
+    let tree = Box::new(alloc, Tree { at, node })?;
+    Ok(tree)
 }
 
 // A look at a value, by the constructor that it is made with. The arms have the last one first.
 fn cases_tree(
     alloc: Global,
     at: At,
-    scrutinee: Tree,
-    ty: Option<Tree>,
+    scrutinee: Box<Tree>,
+    ty: Option<Box<Tree>>,
     arms: Vec<Branch>,
-) -> Result<Tree, OutOfMemory>
-    ensures { IfOk result (λ t. t ≡ tree at (Plain head.Case) (part [] scrutinee (part [] (or_missing at ty) (branches (reverse arms.items))))) }
+) -> Result<Box<Tree>, OutOfMemory>
+    ensures { IfOk result (λ t. t.value ≡ tree at (Plain head.Case) (part [] scrutinee.value (part [] (or_missing at (tree_in ty)) (branches (reverse arms.items))))) }
 {
-    let ty = or_missing(at, ty);
-    let scrutinee = Box::new(alloc, scrutinee)?;
-    let ty = Box::new(alloc, ty)?;
+    let ty = or_missing(alloc, at, ty)?;
     let branches = arms_in_order(arms);
     let node = Node::Case {
         scrutinee,
         ty,
         branches,
     };
-    Ok(Tree { at, node })
+    Ok(Box::new(alloc, Tree { at, node })?)
 }
 
 // The arms, the first one first.
@@ -186,46 +192,53 @@ fn new_arm(
     alloc: Global,
     ctor: Named,
     names: Vec<Option<String>>,
-    body: Tree,
-) -> Result<Branch, OutOfMemory>
-    ensures { IfOk result (λ b. arm_of b ≡ meant.arm ctor (binders_of (reverse names.items)) body) }
+    body: Box<Tree>,
+) -> Result<Box<Branch>, OutOfMemory>
+    ensures { IfOk result (λ b. arm_of b.value ≡ meant.arm ctor (binders_of (reverse names.items)) body.value) }
 {
-    let body = Box::new(alloc, body)?;
     let names = binders_in_order(names);
-    Ok(Branch { ctor, names, body })
+    Ok(Box::new(alloc, Branch { ctor, names, body })?)
 }
 
 // A type of functions without a name.
-fn meta_arrow(alloc: Global, at: At, domain: Tree, codomain: Tree) -> Result<Tree, OutOfMemory>
-    ensures { IfOk result (λ t. term_of t ≡ meant.arrow at (term_of domain ∷ meant.onto false codomain ∷ [])) }
+fn meta_arrow(
+    alloc: Global,
+    at: At,
+    domain: Box<Tree>,
+    codomain: Box<Tree>,
+) -> Result<Box<Tree>, OutOfMemory>
+    ensures { IfOk result (λ t. term_of t.value ≡ meant.arrow at (term_of domain.value ∷ meant.onto false codomain.value ∷ [])) }
 {
     let node = Node::Pi {
         implicit: false,
         binder: None,
-        domain: Box::new(alloc, domain)?,
-        codomain: Box::new(alloc, codomain)?,
+        domain,
+        codomain,
     };
-    Ok(Tree { at, node })
+    Ok(Box::new(alloc, Tree { at, node })?)
 }
 
 // A type of functions of the object language.
-fn object_arrow(alloc: Global, at: At, domain: Tree, codomain: Tree) -> Result<Tree, OutOfMemory>
-    ensures { IfOk result (λ t. term_of t ≡ meant.arrow at (term_of domain ∷ meant.onto true codomain ∷ [])) }
+fn object_arrow(
+    alloc: Global,
+    at: At,
+    domain: Box<Tree>,
+    codomain: Box<Tree>,
+) -> Result<Box<Tree>, OutOfMemory>
+    ensures { IfOk result (λ t. term_of t.value ≡ meant.arrow at (term_of domain.value ∷ meant.onto true codomain.value ∷ [])) }
 {
-    let domain = Box::new(alloc, domain)?;
-    let codomain = Box::new(alloc, codomain)?;
     let node = Node::Arr(domain, codomain);
-    Ok(Tree { at, node })
+    Ok(Box::new(alloc, Tree { at, node })?)
 }
 
 // A term, with what stands behind its arrow, if it has one.
 fn arrow_tree(
     alloc: Global,
     at: At,
-    domain: Tree,
-    onto: Option<(bool, Tree)>,
-) -> Result<Tree, OutOfMemory>
-    ensures { IfOk result (λ t. term_of t ≡ meant.arrow at (term_of domain ∷ optional_onto onto ∷ [])) }
+    domain: Box<Tree>,
+    onto: Option<(bool, Box<Tree>)>,
+) -> Result<Box<Tree>, OutOfMemory>
+    ensures { IfOk result (λ t. term_of t.value ≡ meant.arrow at (term_of domain.value ∷ optional_onto onto ∷ [])) }
 {
     match onto {
         None => Ok(domain),
@@ -243,7 +256,7 @@ impl Source<'_> {
         pop(values);
         let domain = pop(values).domain();
         pop(values);
-        let body = pop(values).term();
+        let body = pop(values).term(self.alloc)?;
         let tree = lambda_tree(self.alloc, place, domain, body)?;
         push(values, Value::Term(tree))?;
         Ok(())
@@ -257,7 +270,7 @@ impl Source<'_> {
         pop(values);
         let domain = pop(values).domain();
         pop(values);
-        let body = pop(values).term();
+        let body = pop(values).term(self.alloc)?;
         let tree = function_tree(self.alloc, place, domain, body)?;
         push(values, Value::Term(tree))?;
         Ok(())
@@ -271,7 +284,7 @@ impl Source<'_> {
         pop(values);
         let domain = pop(values).domain();
         pop(values);
-        let codomain = pop(values).term();
+        let codomain = pop(values).term(self.alloc)?;
         let tree = function_type_tree(self.alloc, place, domain, codomain)?;
         push(values, Value::Term(tree))?;
         Ok(())
@@ -285,11 +298,11 @@ impl Source<'_> {
         pop(values);
         let binder = pop(values).binder();
         pop(values);
-        let ty = pop(values).term();
+        let ty = pop(values).term(self.alloc)?;
         pop(values);
-        let value = pop(values).term();
+        let value = pop(values).term(self.alloc)?;
         pop(values);
-        let body = pop(values).term();
+        let body = pop(values).term(self.alloc)?;
         let tree = meta_let_tree(self.alloc, place, binder, ty, value, body)?;
         push(values, Value::Term(tree))?;
         Ok(())
@@ -303,11 +316,11 @@ impl Source<'_> {
         pop(values);
         let binder = pop(values).binder();
         pop(values);
-        let ty = pop(values).term();
+        let ty = pop(values).term(self.alloc)?;
         pop(values);
-        let value = pop(values).term();
+        let value = pop(values).term(self.alloc)?;
         pop(values);
-        let body = pop(values).term();
+        let body = pop(values).term(self.alloc)?;
         let tree = value_let_tree(self.alloc, place, binder, ty, value, body)?;
         push(values, Value::Term(tree))?;
         Ok(())
@@ -321,11 +334,11 @@ impl Source<'_> {
         pop(values);
         let binder = pop(values).binder();
         pop(values);
-        let ty = pop(values).term();
+        let ty = pop(values).term(self.alloc)?;
         pop(values);
-        let value = pop(values).term();
+        let value = pop(values).term(self.alloc)?;
         pop(values);
-        let body = pop(values).term();
+        let body = pop(values).term(self.alloc)?;
         let tree = recursion_tree(self.alloc, place, binder, ty, value, body)?;
         push(values, Value::Term(tree))?;
         Ok(())
@@ -340,10 +353,10 @@ impl Source<'_> {
         pop(values);
         let binder = pop(values).binder();
         pop(values);
-        let first = pop(values).term();
+        let first = pop(values).term(self.alloc)?;
         pop(values);
         pop(values);
-        let second = pop(values).term();
+        let second = pop(values).term(self.alloc)?;
         let tree = pair_type_tree(self.alloc, place, binder, first, second)?;
         push(values, Value::Term(tree))?;
         Ok(())
@@ -355,7 +368,7 @@ impl Source<'_> {
         ensures { IfOk result (λ _. sems self.now values.new ≡ reduced by.Case place (sems self.now values.old)) }
     {
         pop(values);
-        let scrutinee = pop(values).term();
+        let scrutinee = pop(values).term(self.alloc)?;
         let ty = pop(values).optional_term();
         pop(values);
         pop(values);
@@ -374,7 +387,7 @@ impl Source<'_> {
         let ctor = self.take_named(values)?;
         let names = pop(values).binders(self.alloc)?;
         pop(values);
-        let body = pop(values).term();
+        let body = pop(values).term(self.alloc)?;
         let arm = new_arm(self.alloc, ctor, names, body)?;
         push(values, Value::Arm(arm))?;
         Ok(())
@@ -385,7 +398,7 @@ impl Source<'_> {
         requires { AllFit (params by.Arrow) (sems self.now values.old) }
         ensures { IfOk result (λ _. sems self.now values.new ≡ reduced by.Arrow place (sems self.now values.old)) }
     {
-        let domain = pop(values).term();
+        let domain = pop(values).term(self.alloc)?;
         let onto = pop(values).onto();
         let tree = arrow_tree(self.alloc, place, domain, onto)?;
         push(values, Value::Term(tree))?;
@@ -398,7 +411,7 @@ impl Source<'_> {
         ensures { IfOk result (λ _. sems self.now values.new ≡ reduced by.OntoMeta place (sems self.now values.old)) }
     {
         pop(values);
-        let codomain = pop(values).term();
+        let codomain = pop(values).term(self.alloc)?;
         push(values, Value::Onto(false, codomain))?;
         Ok(())
     }
@@ -409,7 +422,7 @@ impl Source<'_> {
         ensures { IfOk result (λ _. sems self.now values.new ≡ reduced by.OntoObject place (sems self.now values.old)) }
     {
         pop(values);
-        let codomain = pop(values).term();
+        let codomain = pop(values).term(self.alloc)?;
         push(values, Value::Onto(true, codomain))?;
         Ok(())
     }

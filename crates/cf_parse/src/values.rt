@@ -11,32 +11,33 @@ use crate::parts::{Argument, Domain, missing, nowhere};
 use cf_tree::{Branch, CtorTree, Decl, Program, Tree};
 use std::alloc::Global;
 
-// What a phrase that was read stands for. A list has its first item apart, and the others last first.
+// What a phrase that was read stands for. A list has its first item apart, and the others last first. What is large is in a box,
+// so that values are quick to move.
 #[derive(Drop)]
 pub(crate) enum Value {
     // a token, by its number
     Token(usize),
     // a list without items, or a part that is left out
     Nothing,
-    Term(Tree),
+    Term(Box<Tree>),
     Binder(Option<String>),
     Domain(Domain),
     Argument(Argument),
     // what stands behind an arrow; true behind `=>`
-    Onto(bool, Tree),
+    Onto(bool, Box<Tree>),
     // terms between brackets, in order
     Bracketed(Vec<Tree>),
-    Arm(Branch),
-    Ctor(CtorTree),
-    Decl(Decl),
+    Arm(Box<Branch>),
+    Ctor(Box<CtorTree>),
+    Decl(Box<Decl>),
     Program(Program),
     Tokens(usize, Vec<usize>),
-    Terms(Tree, Vec<Tree>),
+    Terms(Box<Tree>, Vec<Tree>),
     Binders(Option<String>, Vec<Option<String>>),
     Arguments(Argument, Vec<Argument>),
-    Arms(Branch, Vec<Branch>),
-    Ctors(CtorTree, Vec<CtorTree>),
-    Decls(Decl, Vec<Decl>),
+    Arms(Box<Branch>, Vec<Branch>),
+    Ctors(Box<CtorTree>, Vec<CtorTree>),
+    Decls(Box<Decl>, Vec<Decl>),
 }
 
 // Takes the topmost value.
@@ -59,12 +60,12 @@ pub(crate) fn push(values: &mut Vec<Value>, value: Value) -> Result<(), OutOfMem
 
 impl Value {
     // The term that it is.
-    pub fn term(self) -> Tree
-        ensures { (s : source.Source) → Fits kind.Term (sem s self) → sem s self ≡ term_of result }
+    pub fn term(self, alloc: Global) -> Result<Box<Tree>, OutOfMemory>
+        ensures { IfOk result (λ t. (s : source.Source) → Fits kind.Term (sem s self) → sem s self ≡ term_of t.value) }
     {
         match self {
-            Value::Term(t) => t,
-            _ => missing(nowhere()),
+            Value::Term(t) => Ok(t),
+            _ => Ok(Box::new(alloc, missing(nowhere()))?),
         }
     }
 
@@ -123,7 +124,7 @@ impl Value {
         match self {
             Value::Terms(first, others) => {
                 let mut all = others;
-                all.push(first)?;
+                all.push(Box::into_inner(first))?;
                 Ok(all)
             }
             _ => Ok(Vec::new(alloc)),
@@ -165,7 +166,7 @@ impl Value {
         match self {
             Value::Arms(first, others) => {
                 let mut all = others;
-                all.push(first)?;
+                all.push(Box::into_inner(first))?;
                 Ok(all)
             }
             _ => Ok(Vec::new(alloc)),
@@ -179,7 +180,7 @@ impl Value {
         match self {
             Value::Ctors(first, others) => {
                 let mut all = others;
-                all.push(first)?;
+                all.push(Box::into_inner(first))?;
                 Ok(all)
             }
             _ => Ok(Vec::new(alloc)),
@@ -193,7 +194,7 @@ impl Value {
         match self {
             Value::Decls(first, others) => {
                 let mut all = others;
-                all.push(first)?;
+                all.push(Box::into_inner(first))?;
                 Ok(all)
             }
             _ => Ok(Vec::new(alloc)),
@@ -201,7 +202,7 @@ impl Value {
     }
 
     // The term that it is, if it is one.
-    pub fn optional_term(self) -> Option<Tree>
+    pub fn optional_term(self) -> Option<Box<Tree>>
         ensures { (s : source.Source) → Fits (kind.Maybe kind.Term) (sem s self) → sem s self ≡ optional_term result }
     {
         match self {
@@ -211,7 +212,7 @@ impl Value {
     }
 
     // What stands behind an arrow, if one does; true behind `=>`.
-    pub fn onto(self) -> Option<(bool, Tree)>
+    pub fn onto(self) -> Option<(bool, Box<Tree>)>
         ensures { (s : source.Source) → Fits (kind.Maybe kind.Onto) (sem s self) → sem s self ≡ optional_onto result }
     {
         match self {

@@ -4,7 +4,7 @@ use Rattle.cf_parse.specs.Values.{argument_of, listed}
 use Rattle.cf_parse.proofs.applying.with_arguments.Given as goal
 
 abbrev pub invariant-loop-u : goal.invariant-loop-u
-invariant-loop-u l = arguments l.fn.at l.t (listed (map argument_of (reverse l.arguments.items))) ≡ arguments l.fn.at l.fn.t (listed (map argument_of (reverse l.fn.arguments.items)))
+invariant-loop-u l = arguments l.fn.at l.t.value (listed (map argument_of (reverse l.arguments.items))) ≡ arguments l.fn.at l.fn.t.value (listed (map argument_of (reverse l.fn.arguments.items)))
 
 abbrev pub decreases-loop-u : goal.decreases-loop-u
 decreases-loop-u l = length l.arguments.items

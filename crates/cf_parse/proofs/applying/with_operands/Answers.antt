@@ -2,4 +2,4 @@ use Rattle.cf_parse.proofs.Joined.{one_operand}
 use Rattle.cf_parse.proofs.applying.with_operands.Goals as goal
 
 pub loop-u-preserved : goal.loop-u-preserved
-loop-u-preserved c = one_operand c.args.at c.loop-u.t c.in-Some.u _ c.loop-u.operands.items c.pop.new.self.items _ c.in-Some.ensures.items c.in_ok-t.ensures c.loop-u.invariant
+loop-u-preserved c = one_operand c.args.at c.loop-u.t.value c.in-Some.u _ c.loop-u.operands.items c.pop.new.self.items _ c.in-Some.ensures.items c.in_ok-t.ensures c.loop-u.invariant

@@ -9,5 +9,5 @@ use Rattle.cf_parse.proofs.source.Source.application.Goals as goal
 pub returns : goal.returns
 returns c =
     let s = c.args.self.now in
-    let o = two c.requires (c.take_term-function.ensures s) (retold (c.pop.ensures s (kind.Many kind.Argument)) (c.in_ok-arguments.ensures s)) in
+    let o = two c.requires (c.in_ok-function.ensures s) (retold (c.pop.ensures s (kind.Many kind.Argument)) (c.in_ok-arguments.ensures s)) in
     made (reduced by.Application c.args.place) (c.in_ok-push.ensures s) (ap (λ t. meant.term t) c.in_ok-t.ensures) o.0 refl

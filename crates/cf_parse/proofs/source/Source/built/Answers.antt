@@ -1,5 +1,4 @@
-use Rattle.std.proofs.Common.{[], ◌∷◌, ◌++◌, ◌+◌, ◌∙◌, List, ap, map, reverse, subst, sym}
-use Rattle.cf_grammar.specs.declared.productions.Step.{Step}
+use Rattle.std.proofs.Common.{[], ◌∷◌, ◌++◌, ◌+◌, ◌∙◌, ap, map, reverse, subst, sym}
 use Rattle.cf_parse.proofs.Judging.{length_of}
 use Rattle.cf_parse.proofs.Places.{head_is}
 use Rattle.cf_parse.proofs.Stages.{begun, ended, none_left, opening, took}

@@ -1,4 +1,4 @@
-use Rattle.std.proofs.Common.{◌≤◌, length}
+use Rattle.std.proofs.Common.{length}
 use Rattle.cf_parse.specs.Building.{Stage}
 use Rattle.cf_parse.specs.Tokens.{tokens_of}
 use Rattle.cf_parse.specs.Values.{sems}

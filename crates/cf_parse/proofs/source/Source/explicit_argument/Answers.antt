@@ -7,5 +7,5 @@ use Rattle.cf_parse.proofs.source.Source.explicit_argument.Goals as goal
 pub returns : goal.returns
 returns c =
     let s = c.args.self.now in
-    let o = one c.requires (c.take_term-term.ensures s) in
+    let o = one c.requires (c.in_ok-term.ensures s) in
     made (reduced by.ExplicitArgument c.args.place) (c.in_ok-push.ensures s) refl o.0 refl

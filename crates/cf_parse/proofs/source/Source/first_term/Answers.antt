@@ -6,4 +6,4 @@ use Rattle.cf_parse.proofs.source.Source.first_term.Goals as goal
 pub returns : goal.returns
 returns c =
     let s = c.args.self.now in
-    of_two meant.more c.args.place c.requires (c.pop.ensures s _) (c.pop-2.ensures s _) (c.term-first.ensures s) (c.in_ok-others.ensures s) (c.in_ok-push.ensures s) refl
+    of_two meant.more c.args.place c.requires (c.pop.ensures s _) (c.pop-2.ensures s _) (c.in_ok-first.ensures s) (c.in_ok-others.ensures s) (c.in_ok-push.ensures s) refl

@@ -2,7 +2,6 @@ use Rattle.std.proofs.Common.{ap, sym, refl, ◌∙◌}
 use Rattle.cf_parse.proofs.Taken.{four, made, word_takes}
 use Rattle.cf_parse.proofs.Making.{makes}
 use Rattle.cf_parse.specs.Evaluation.{reduced}
-use Rattle.cf_parse.specs.Built.{three_tree}
 use Rattle.cf_grammar.specs.declared.productions.Production.TheVariants as by
 use Rattle.cf_parse.specs.Meaning as meant
 use Rattle.cf_parse.proofs.source.Source.three_atoms.Goals as goal
@@ -12,6 +11,6 @@ returns c =
     let s = c.args.self.now in
     let w = c.take_word-word.ensures in
     let y = c.take_word-word.result in
-    let o = four c.requires (w.1.1 3) (c.take_term.ensures s) (c.take_term-2.ensures s) (c.take_term-3.ensures s) in
+    let o = four c.requires (w.1.1 3) (c.in_ok-s.ensures s) (c.in_ok-t.ensures s) (c.in_ok-u.ensures s) in
     let p = c.args.place in
-    made (reduced by.ThreeAtoms c.args.place) (c.in_ok-put_form.ensures s) (ap (λ t. meant.term t) (c.with_three.ensures p) ∙ (λ i. meant.term (three_tree p y (c.in_ok-s.ensures.ok i) (c.in_ok-t.ensures.ok i) (c.in_ok-u.ensures.ok i))) ∙ sym (makes y 3 (word_takes o.1.0) p c.take_term.result c.take_term-2.result c.take_term-3.result)) o.0 refl
+    made (reduced by.ThreeAtoms c.args.place) (c.in_ok-put_form.ensures s) (ap (λ t. meant.term t) (c.with_three.ensures p) ∙ sym (makes y 3 (word_takes o.1.0) p c.in_ok-s.s.value c.in_ok-t.t.value c.in_ok-u.u.value)) o.0 refl
