@@ -6,6 +6,7 @@ ghost use Rattle.wb_num.specs.Answers.{AnswersNumber};
 use crate::trap::NumTrap;
 
 /// Comparisons, from i32.eq (46) to i32.ge_u (4F).
+#[inline(always)]
 #[tactic(auto, unfolding(wb_syntax::specs::Table::row_at))]
 pub fn compare_i32(op: u8, a: u32, b: u32) -> bool
     requires from_eq { 0x46 ≤ op }
@@ -27,6 +28,7 @@ pub fn compare_i32(op: u8, a: u32, b: u32) -> bool
 }
 
 /// Arithmetic, from i32.add (6A) to i32.rotr (78).
+#[inline(always)]
 #[tactic(auto, unfolding(wb_syntax::specs::Table::row_at))]
 pub fn compute_i32(op: u8, a: u32, b: u32) -> Result<u32, NumTrap>
     requires from_add { 0x6A ≤ op }
@@ -41,6 +43,7 @@ pub fn compute_i32(op: u8, a: u32, b: u32) -> Result<u32, NumTrap>
 }
 
 // Sums, differences, products (6A to 6C) and bitwise operations (71 to 73).
+#[inline(always)]
 #[tactic(auto, unfolding(wb_syntax::specs::Table::row_at))]
 fn combine_i32(op: u8, a: u32, b: u32) -> u32
     requires from_add { 0x6A ≤ op }
@@ -59,6 +62,7 @@ fn combine_i32(op: u8, a: u32, b: u32) -> u32
 }
 
 // Quotients and remainders (6D to 70).
+#[inline(always)]
 #[tactic(auto, unfolding(wb_syntax::specs::Table::row_at))]
 fn divide_i32(op: u8, a: u32, b: u32) -> Result<u32, NumTrap>
     requires from_div_s { 0x6D ≤ op }
@@ -81,6 +85,7 @@ fn divide_i32(op: u8, a: u32, b: u32) -> Result<u32, NumTrap>
 }
 
 // The signed quotient, which is too large where the least number is divided by -1.
+#[inline(always)]
 #[tactic(auto, unfolding(wb_syntax::specs::Table::row_at))]
 fn quotient_i32(a: u32, b: u32) -> Result<u32, NumTrap>
     requires { 0 < b }
@@ -93,6 +98,7 @@ fn quotient_i32(a: u32, b: u32) -> Result<u32, NumTrap>
 }
 
 // Shifts and rotations by distances modulo 32 (74 to 78).
+#[inline(always)]
 #[tactic(auto, unfolding(wb_syntax::specs::Table::row_at))]
 fn shift_i32(op: u8, a: u32, b: u32) -> u32
     requires from_shl { 0x74 ≤ op }

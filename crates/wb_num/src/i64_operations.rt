@@ -6,6 +6,7 @@ ghost use Rattle.wb_num.specs.Answers.{AnswersNumber};
 use crate::trap::NumTrap;
 
 /// Comparisons, from i64.eq (51) to i64.ge_u (5A).
+#[inline(always)]
 #[tactic(auto, unfolding(wb_syntax::specs::Table::row_at))]
 pub fn compare_i64(op: u8, a: u64, b: u64) -> bool
     requires from_eq { 0x51 ≤ op }
@@ -27,6 +28,7 @@ pub fn compare_i64(op: u8, a: u64, b: u64) -> bool
 }
 
 /// Arithmetic, from i64.add (7C) to i64.rotr (8A).
+#[inline(always)]
 #[tactic(auto, unfolding(wb_syntax::specs::Table::row_at))]
 pub fn compute_i64(op: u8, a: u64, b: u64) -> Result<u64, NumTrap>
     requires from_add { 0x7C ≤ op }
@@ -41,6 +43,7 @@ pub fn compute_i64(op: u8, a: u64, b: u64) -> Result<u64, NumTrap>
 }
 
 // Sums, differences, products (7C to 7E) and bitwise operations (83 to 85).
+#[inline(always)]
 #[tactic(auto, unfolding(wb_syntax::specs::Table::row_at))]
 fn combine_i64(op: u8, a: u64, b: u64) -> u64
     requires from_add { 0x7C ≤ op }
@@ -59,6 +62,7 @@ fn combine_i64(op: u8, a: u64, b: u64) -> u64
 }
 
 // Quotients and remainders (7F to 82).
+#[inline(always)]
 #[tactic(auto, unfolding(wb_syntax::specs::Table::row_at))]
 fn divide_i64(op: u8, a: u64, b: u64) -> Result<u64, NumTrap>
     requires from_div_s { 0x7F ≤ op }
@@ -81,6 +85,7 @@ fn divide_i64(op: u8, a: u64, b: u64) -> Result<u64, NumTrap>
 }
 
 // The signed quotient, which is too large where the least number is divided by -1.
+#[inline(always)]
 #[tactic(auto, unfolding(wb_syntax::specs::Table::row_at))]
 fn quotient_i64(a: u64, b: u64) -> Result<u64, NumTrap>
     requires { 0 < b }
@@ -93,6 +98,7 @@ fn quotient_i64(a: u64, b: u64) -> Result<u64, NumTrap>
 }
 
 // Shifts and rotations by distances modulo 64 (86 to 8A).
+#[inline(always)]
 #[tactic(auto, unfolding(wb_syntax::specs::Table::row_at))]
 fn shift_i64(op: u8, a: u64, b: u64) -> u64
     requires from_shl { 0x86 ≤ op }

@@ -8,6 +8,7 @@ use crate::i64_operations::{compare_i64, compute_i64};
 use crate::trap::NumTrap;
 
 // A test as a number.
+#[inline(always)]
 fn flag(test: bool) -> u64
     ensures number { result ≡ word_of test }
     ensures fits { result < 2 }
@@ -23,6 +24,7 @@ fn flag(test: bool) -> u64
 /// # Errors
 ///
 /// `DivideByZero` where a division or a remainder has the divisor 0, `Overflow` where the least signed number is divided by -1.
+#[inline(always)]
 #[tactic(auto, unfolding(wb_syntax::specs::Table::row_at))]
 pub fn binary(op: u8, a: u64, b: u64) -> Result<u64, NumTrap>
     requires operation { IsBinaryOperation op }

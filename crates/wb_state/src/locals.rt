@@ -45,6 +45,7 @@ impl Locals {
     }
 
     /// The word of a local of the innermost frame, where there is one of this index.
+    #[inline(always)]
     pub fn get(&self, index: u32) -> Option<Word>
         ensures { option_map seen result ≡ slice_get self.now.current index }
     {
@@ -53,6 +54,7 @@ impl Locals {
 
     /// Sets a local of the innermost frame to a word of its type; says whether there is such a local, and else changes
     /// nothing.
+    #[inline(always)]
     pub fn set(&mut self, index: u32, word: Word) -> bool
         ensures current { SetsTo (replaced self.old.current index (seen word)) self.old.current result self.new.current }
         ensures outer { self.new.outer ≡ self.old.outer }

@@ -21,6 +21,7 @@ pub enum Width {
 
 impl Width {
     /// The number of bytes.
+    #[inline(always)]
     pub fn bytes(self) -> usize
         ensures { result ≡ bytes_in self }
     {
@@ -34,6 +35,7 @@ impl Width {
 }
 
 /// The byte at an index.
+#[inline(always)]
 fn byte(bytes: &[u8], at: usize) -> u64
     requires { at + 1 ≤ length bytes.now }
     ensures number { result ≡ number_of (take 1 (drop at bytes.now)) }
@@ -43,6 +45,7 @@ fn byte(bytes: &[u8], at: usize) -> u64
 }
 
 /// The number in two bytes.
+#[inline(always)]
 #[tactic(auto, using(crate::proofs::Halves::read_two))]
 fn two(bytes: &[u8], at: usize) -> u64
     requires { at + 2 ≤ length bytes.now }
@@ -53,6 +56,7 @@ fn two(bytes: &[u8], at: usize) -> u64
 }
 
 /// The number in four bytes.
+#[inline(always)]
 #[tactic(auto, using(crate::proofs::Halves::read_four))]
 fn four(bytes: &[u8], at: usize) -> u64
     requires { at + 4 ≤ length bytes.now }
@@ -63,6 +67,7 @@ fn four(bytes: &[u8], at: usize) -> u64
 }
 
 /// The number in eight bytes.
+#[inline(always)]
 #[tactic(auto, using(crate::proofs::Halves::read_eight))]
 fn eight(bytes: &[u8], at: usize) -> u64
     requires { at + 8 ≤ length bytes.now }
@@ -73,6 +78,7 @@ fn eight(bytes: &[u8], at: usize) -> u64
 }
 
 /// The number in bytes that are there.
+#[inline(always)]
 fn number_at(bytes: &[u8], at: usize, width: Width) -> u64
     requires { at + bytes_in width ≤ length bytes.now }
     ensures number { result ≡ number_of (take (bytes_in width) (drop at bytes.now)) }
@@ -87,6 +93,7 @@ fn number_at(bytes: &[u8], at: usize, width: Width) -> u64
 }
 
 /// Writes the lowest byte of a number.
+#[inline(always)]
 fn set_byte(bytes: &mut [u8], at: usize, number: u64)
     requires { at + 1 ≤ length bytes.old }
     ensures { bytes.new ≡ overwrite bytes.old at (bytes_of 1 number) }
@@ -95,6 +102,7 @@ fn set_byte(bytes: &mut [u8], at: usize, number: u64)
 }
 
 /// Writes the two lowest bytes of a number.
+#[inline(always)]
 #[tactic(auto, using(crate::proofs::Halves::write_two))]
 fn set_two(bytes: &mut [u8], at: usize, number: u64)
     requires { at + 2 ≤ length bytes.old }
@@ -105,6 +113,7 @@ fn set_two(bytes: &mut [u8], at: usize, number: u64)
 }
 
 /// Writes the four lowest bytes of a number.
+#[inline(always)]
 #[tactic(auto, using(crate::proofs::Halves::write_four))]
 fn set_four(bytes: &mut [u8], at: usize, number: u64)
     requires { at + 4 ≤ length bytes.old }
@@ -115,6 +124,7 @@ fn set_four(bytes: &mut [u8], at: usize, number: u64)
 }
 
 /// Writes the eight bytes of a number.
+#[inline(always)]
 #[tactic(auto, using(crate::proofs::Halves::write_eight))]
 fn set_eight(bytes: &mut [u8], at: usize, number: u64)
     requires { at + 8 ≤ length bytes.old }
@@ -125,6 +135,7 @@ fn set_eight(bytes: &mut [u8], at: usize, number: u64)
 }
 
 /// Writes the lowest bytes of a number to bytes that are there.
+#[inline(always)]
 fn set_number(bytes: &mut [u8], at: usize, width: Width, number: u64)
     requires { at + bytes_in width ≤ length bytes.old }
     ensures { bytes.new ≡ overwrite bytes.old at (bytes_of (bytes_in width) number) }
@@ -155,6 +166,7 @@ impl Model for Memory {
 }
 
 /// Whether so many bytes stand from an index on.
+#[inline(always)]
 fn is_there(bytes: &[u8], at: usize, width: Width) -> bool
     requires { at < 2 ^ 33 }
     ensures { result ≡ nat_le (at + bytes_in width) (length bytes.now) }
@@ -180,6 +192,7 @@ impl Memory {
     }
 
     /// The number in the bytes from an address on, where they are there.
+    #[inline(always)]
     pub fn read(&self, at: u64, width: Width) -> Option<u64>
         requires { at < 2 ^ 33 }
         ensures number { result ≡ read_at self.now at (bytes_in width) }
@@ -193,6 +206,7 @@ impl Memory {
     }
 
     /// Writes the lowest bytes of a number from an address on; says whether they are there, and else changes nothing.
+    #[inline(always)]
     pub fn write(&mut self, at: u64, width: Width, number: u64) -> bool
         requires { at < 2 ^ 33 }
         ensures { WritesTo (written_at self.old at (bytes_in width) number) self.old result self.new }

@@ -48,16 +48,18 @@ impl Operands {
     }
 
     /// Takes the topmost word, where one stands above the floor.
+    #[inline(always)]
     pub fn take_any(&mut self) -> Option<Word>
         ensures { TakesAny result self.old self.new }
     {
         if self.words.len() == self.floor {
             return None;
         }
-        self.words.pop()
+        Some(self.words.take_last())
     }
 
     /// Takes the topmost word, which has to be of this type, and answers its bits.
+    #[inline(always)]
     pub fn take(&mut self, ty: NumType) -> Option<u64>
         ensures taken { TakesTo (take_word ty self.old) result self.new }
         ensures fits { IfSome result (λ n. n < 2 ^ bits_of ty) }
@@ -70,6 +72,7 @@ impl Operands {
     }
 
     /// Puts a word on top; says whether there was room, and else changes nothing.
+    #[inline(always)]
     pub fn put(&mut self, word: Word) -> bool
         ensures puts { PutsTo (put (seen word) self.old) result self.new }
         ensures room { self.new.room ≡ self.old.room }
@@ -77,11 +80,12 @@ impl Operands {
         if self.words.len() == self.most {
             return false;
         }
-        self.words.push(word).unwrap();
+        self.words.push_reserved(word);
         true
     }
 
     /// How many words there are.
+    #[inline(always)]
     pub fn height(&self) -> usize
         ensures height { result ≡ height_of self.now }
         ensures within { result ≤ self.now.most }
@@ -90,6 +94,7 @@ impl Operands {
     }
 
     /// How many words stand below the floor.
+    #[inline(always)]
     pub fn floor(&self) -> usize
         ensures { result ≡ length self.now.below }
     {
@@ -117,6 +122,7 @@ impl Operands {
     }
 
     /// Puts the floor on top of all words.
+    #[inline(always)]
     pub fn raise(&mut self)
         ensures { self.new ≡ raised self.old }
     {

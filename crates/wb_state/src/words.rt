@@ -16,6 +16,7 @@ pub enum Word {
 
 impl Word {
     /// The word of a type with these bits.
+    #[inline(always)]
     pub fn new(ty: NumType, bits: u64) -> Word
         requires { bits < 2 ^ bits_of ty }
         ensures { seen result ≡ word ty bits }
@@ -37,6 +38,7 @@ impl Word {
     }
 
     /// The type of the word.
+    #[inline(always)]
     pub fn ty(self) -> NumType
         ensures { result ≡ type_of (seen self) }
     {
@@ -47,6 +49,7 @@ impl Word {
     }
 
     /// The bits of the word, where it is of this type.
+    #[inline(always)]
     pub fn bits_as(self, ty: NumType) -> Option<u64>
         ensures bits { result ≡ bits_as ty (seen self) }
         ensures fits { IfSome result (λ n. n < 2 ^ bits_of ty) }
@@ -65,6 +68,7 @@ impl Word {
 }
 
 /// Whether a word of this type is held at a place.
+#[inline(always)]
 fn holds(words: &[Word], at: usize, ty: NumType) -> bool
     ensures { result ≡ holds ty (slice_get (map seen words.now) at) }
 {
@@ -75,6 +79,7 @@ fn holds(words: &[Word], at: usize, ty: NumType) -> bool
 }
 
 /// Puts a word at a place that holds one of its type; says whether there is such a place, and else changes nothing.
+#[inline(always)]
 #[tactic(auto, using(crate::proofs::Places::replaced_held))]
 pub(crate) fn replace(words: &mut [Word], at: usize, word: Word) -> bool
     ensures { SetsTo (replaced (map seen words.old) at (seen word)) (map seen words.old) result (map seen words.new) }
