@@ -1,25 +1,28 @@
--- A step of a run is a step of the definition of execution.
+-- What an instruction does to a run is a step of the definition of execution.
 use Rattle.std.proofs.Common.{◌≡◌, ℕ, zero, suc, ◌+◌, ◌<◌, List, [], ◌∷◌, length, drop, arith, refl, sym, ap, subst, ◌∙◌, add-one}
 use Rattle.std.specs.Prelude.{Bool, true, false, Some, None, slice_get}
 use Rattle.wb_syntax.specs.declared.syntax.Instr.{Instr}
 use Rattle.wb_syntax.specs.declared.syntax.Instr.TheVariants.{Block, Loop, If, Else, End, Br, BrIf, BrTable, Return, Call, I32Const, I64Const}
 use Rattle.wb_syntax.specs.declared.syntax.Func.{Func}
 use Rattle.wb_syntax.specs.declared.syntax.Module.{Module}
-use Rattle.wb_syntax.specs.Syntax.{Code, Nothing, Then, Plain}
+use Rattle.wb_syntax.specs.Syntax.{Code, Then, Plain}
 use Rattle.wb_syntax.specs.Nesting.{Level, put, put_instr, levels}
 use Rattle.wb_syntax.specs.Execute.{Word, Label as Opened, Frame, Config, Move, Goes, Finishes, Traps, NoRule, settle, step_at, machine_step}
 use Rattle.wb_syntax.specs.Runs.{words_of, before_step}
 use Rattle.wb_code.specs.declared.leading.Jump.{Jump}
 use Rattle.wb_state.specs.Stack.{IsOver}
-use Rattle.wb_plain.specs.Effects.{State, SameStore}
-use Rattle.wb_plain.specs.Follows.{IsStraight, pages_of, length_of, Keeps, step_of, is_step}
+use Rattle.wb_plain.specs.Effects.{State, kind_of, SameStore, effect, Ends}
+use Rattle.wb_plain.specs.Laws.{EffectsFollow}
+use Rattle.wb_plain.specs.declared.outcome.Outcome.{Outcome}
+use Rattle.wb_plain.specs.declared.outcome.Outcome.TheVariants.{Goes as OutcomeGoes, Full as OutcomeFull, Traps as OutcomeTraps, Stuck as OutcomeStuck}
+use Rattle.wb_plain.specs.Follows.{IsStraight, store_of, pages_of, Keeps, step_of, is_step}
 use Rattle.wb_control.specs.Piles.{Label}
-use Rattle.wb_control.specs.Changes.{Run, Change, Leads, Returns, Fails, Fits, words_in, at_place, IsTooFull, Comes, SameRooms}
+use Rattle.wb_control.specs.Changes.{Run, Change, Leads, Returns, Fails, Fits, words_in, results_of, at_place, IsTooFull, Comes}
 use Rattle.wb_control.specs.Steps.{controlled}
 use Rattle.wb_control.specs.Stands.{AllNested, AllLead, Open, shown, Stands}
-use Rattle.wb_control.specs.Advances.{is_control, is_constant, in_state, Straightens, Advances, FitsOn, Answers, HasStep}
+use Rattle.wb_control.specs.Advances.{is_control, is_constant, in_state, flow_of, Straightens, is_made, Answers, HasStep}
 use Rattle.wb_control.specs.declared.run.Flow.{Flow}
-use Rattle.wb_control.specs.declared.run.Flow.TheVariants.{Goes as FlowGoes, Full as FlowFull, Finishes as FlowFinishes, Traps as FlowTraps, Stuck as FlowStuck}
+use Rattle.wb_control.specs.declared.run.Flow.TheVariants.{Settles as FlowSettles, Goes as FlowGoes, Moves as FlowMoves, Full as FlowFull, Finishes as FlowFinishes, Traps as FlowTraps, Stuck as FlowStuck}
 use Rattle.wb_control.proofs.Levels.{at_func, read, goes_on}
 use Rattle.wb_control.proofs.Leaving.{IsStep}
 use Rattle.wb_control.proofs.Branching.{shaped}
@@ -72,50 +75,37 @@ too_full m room r move (Leads q) s h = let w = words_least m q s.0 s.2 in (s.0, 
 too_full m room r move (Returns ws) s h = absurd h
 too_full m room r move Fails s h = absurd h
 
-came : (m : Module) (room : ℕ) (c : Config) (flow : Flow) (ch : Change) (old new : Run) → IsStep m old (machine_step m room c) ch → Comes flow ch old new → Advances m room c flow old new
-came m room c FlowGoes ch old new s h =
-    let q = subst (IsStep m old (machine_step m room c)) h.0 s in
-    (q.0, q.1, q.2, h.1, ap length_of h.2.0)
-came m room c FlowFull ch old new s h =
-    let q = too_full m old.state.operands.room old (machine_step m room c) ch s h.0 in
-    (q.0, q.1, q.2, h.1)
-came m room c (FlowFinishes w) ch old new s h = (subst (IsStep m old (machine_step m room c)) h.0 s, h.1)
-came m room c (FlowTraps k) ch old new s h = absurd h
-came m room c FlowStuck ch old new s h = (subst (IsStep m old (machine_step m room c)) h.0 s, h.1)
+-- the step leads to a configuration for which the run stands that is left
+abbrev LeadsTo : Module → Move → Run → Type 0
+LeadsTo m move new = (d : Config) × (move ≡ Goes d) × Stands m new d
 
-pub control_advances : (m : Module) (js : List (List Jump)) (room next : ℕ) (c : Config) (flow : Flow) (f : Func) (i : Instr) (old new : Run) → next ≡ old.place.at + 1 → AllNested m → AllLead m js → slice_get m.funcs old.place.func ≡ Some f → slice_get f.body old.place.at ≡ Some i → is_control i ≡ true → Stands m old c → Comes flow (controlled m js next old i) old new → Advances m room c flow old new
-control_advances m js room next c flow f i old new e nests leads named there h s k =
+-- the step of the definition is this one
+abbrev pub IsMove : Module → Move → Flow → (old new : Run) → Type 0
+IsMove m move FlowSettles old new = ⊥
+IsMove m move FlowGoes old new = LeadsTo m move new
+IsMove m move FlowMoves old new = LeadsTo m move new
+IsMove m move FlowFull old new = (d : Config) × (move ≡ Goes d) × (old.state.operands.room < words_of d)
+IsMove m move FlowFinishes old new = move ≡ Finishes (results_of new.result) (store_of new.state)
+IsMove m move (FlowTraps k) old new = move ≡ Traps (kind_of k) (store_of new.state)
+IsMove m move FlowStuck old new = move ≡ NoRule
+
+pub same_store : (old new : State) → SameStore old new → store_of old ≡ store_of new
+same_store old new h = λ i. record { memory = sym h.0 i; globals = sym h.1 i }
+
+came : (m : Module) (move : Move) (flow : Flow) (ch : Change) (old new : Run) → IsStep m old move ch → Comes flow ch old new → IsMove m move flow old new
+came m move FlowSettles ch old new s h = absurd h
+came m move FlowGoes ch old new s h = subst (IsStep m old move) h.0 s
+came m move FlowMoves ch old new s h = subst (IsStep m old move) h.0 s
+came m move FlowFull ch old new s h = too_full m old.state.operands.room old move ch s h.0
+came m move FlowFinishes ch old new s h = subst (IsStep m old move) h.0 s ∙ ap (Finishes (results_of new.result)) (same_store old.state new.state h.1)
+came m move (FlowTraps k) ch old new s h = absurd h
+came m move FlowStuck ch old new s h = subst (IsStep m old move) h.0 s
+
+pub control_moves : (m : Module) (js : List (List Jump)) (room next : ℕ) (c : Config) (flow : Flow) (f : Func) (i : Instr) (old new : Run) → next ≡ old.place.at + 1 → AllNested m → AllLead m js → slice_get m.funcs old.place.func ≡ Some f → slice_get f.body old.place.at ≡ Some i → is_control i ≡ true → Stands m old c → Comes flow (controlled m js next old i) old new → IsMove m (machine_step m room c) flow old new
+control_moves m js room next c flow f i old new e nests leads named there h s k =
     let n : next ≡ suc old.place.at = e ∙ add-one old.place.at in
     let step = control_step m js room old c f i nests leads named there (controls i h) s in
-    came m room c flow (controlled m js next old i) old new (subst (λ x. IsStep m old (machine_step m room c) (controlled m js x old i)) (sym n) step) k
-
-pub rooms_of : (flow : Flow) (ch : Change) (old new : Run) → Comes flow ch old new → SameRooms old new
-rooms_of FlowGoes ch old new h = h.3
-rooms_of FlowFull ch old new h = h.2
-rooms_of (FlowFinishes w) ch old new h = h.2
-rooms_of (FlowTraps k) ch old new h = absurd h
-rooms_of FlowStuck ch old new h = h.2
-
-pub fits_on : (flow : Flow) (ch : Change) (old new : Run) → Comes flow ch old new → FitsOn flow new
-fits_on FlowGoes ch old new h = h.1
-fits_on FlowFull ch old new h = tt
-fits_on (FlowFinishes w) ch old new h = tt
-fits_on (FlowTraps k) ch old new h = tt
-fits_on FlowStuck ch old new h = tt
-
-pub size_of : (flow : Flow) (ch : Change) (old new : Run) → Comes flow ch old new → length_of new.state.memory ≡ length_of old.state.memory
-size_of FlowGoes ch old new h = ap length_of h.2.0
-size_of FlowFull ch old new h = ap length_of h.1.0
-size_of (FlowFinishes w) ch old new h = ap length_of h.1.0
-size_of (FlowTraps k) ch old new h = absurd h
-size_of FlowStuck ch old new h = ap length_of h.1.0
-
-pub straight_fits : (flow : Flow) (i : Instr) (next : ℕ) (old new : Run) → Straightens flow i next old new → FitsOn flow new
-straight_fits FlowGoes i next old new h = h.1
-straight_fits FlowFull i next old new h = tt
-straight_fits (FlowFinishes w) i next old new h = tt
-straight_fits (FlowTraps k) i next old new h = tt
-straight_fits FlowStuck i next old new h = tt
+    came m (machine_step m room c) flow (controlled m js next old i) old new (subst (λ x. IsStep m old (machine_step m room c) (controlled m js x old i)) (sym n) step) k
 
 -- ---- other instructions
 
@@ -150,29 +140,31 @@ straight_at m r c f i named there h k s =
       goes = λ t b o. moved_stands m r f t s.own s.rest g.rest s.labels s.tail s.callers named b o s.split s.mark s.inside.bottom s.waits g.next;
     }
 
-pub straight_advances : (m : Module) (next : ℕ) (c : Config) (flow : Flow) (f : Func) (i : Instr) (old new : Run) → next ≡ old.place.at + 1 → slice_get m.funcs old.place.func ≡ Some f → slice_get f.body old.place.at ≡ Some i → is_control i ≡ false → is_constant i ≡ false → Stands m old c → Straightens flow i next old new → Advances m (pages_of old.state.memory) c flow old new
-straight_advances m next c FlowGoes f i old new e named there h k s st =
+pub straight_moves : (m : Module) (next : ℕ) (c : Config) (flow : Flow) (f : Func) (i : Instr) (old new : Run) → next ≡ old.place.at + 1 → slice_get m.funcs old.place.func ≡ Some f → slice_get f.body old.place.at ≡ Some i → is_control i ≡ false → is_constant i ≡ false → Stands m old c → Straightens flow i next old new → IsMove m (machine_step m (pages_of old.state.memory) c) flow old new
+straight_moves m next c FlowSettles f i old new e named there h k s st = absurd st
+straight_moves m next c FlowGoes f i old new e named there h k s st =
     let a = straight_at m old c f i named there h k s in
     let n : next ≡ suc old.place.at = e ∙ add-one old.place.at in
     let d = shaped old a.labels a.callers old.state.operands.above (Then (Plain i) a.rest) in
     let q : Run = at_place (in_state old new.state) (suc old.place.at) in
     let same : q ≡ new = sym (st.0 ∙ ap (at_place (in_state old new.state)) n) in
     let stands = a.goes new.state st.2.below st.2.outer in
-    (shown q a.rest a.labels a.callers, a.step ∙ st.3 m d a.rest, subst (λ r. Stands m r (shown q a.rest a.labels a.callers)) same stands, st.1, st.2.size)
-straight_advances m next c FlowFull f i old new e named there h k s st =
+    (shown q a.rest a.labels a.callers, a.step ∙ st.3 m d a.rest, subst (λ r. Stands m r (shown q a.rest a.labels a.callers)) same stands)
+straight_moves m next c FlowMoves f i old new e named there h k s st = absurd st
+straight_moves m next c FlowFull f i old new e named there h k s st =
     let a = straight_at m old c f i named there h k s in
     let d = shaped old a.labels a.callers old.state.operands.above (Then (Plain i) a.rest) in
     let o = st.0 m d a.rest in
     let q : Run = at_place (in_state old o.0) (suc old.place.at) in
     let w = words_least m q (shown q a.rest a.labels a.callers) (a.goes o.0 o.2.below o.2.outer) in
-    (shown q a.rest a.labels a.callers, a.step ∙ o.1, omega (arith, w, o.3), st.1)
-straight_advances m next c (FlowFinishes w) f i old new e named there h k s st = absurd st
-straight_advances m next c (FlowTraps x) f i old new e named there h k s st =
+    (shown q a.rest a.labels a.callers, a.step ∙ o.1, omega (arith, w, o.3))
+straight_moves m next c FlowFinishes f i old new e named there h k s st = absurd st
+straight_moves m next c (FlowTraps x) f i old new e named there h k s st =
     let a = straight_at m old c f i named there h k s in
-    (a.step ∙ st.0 m (shaped old a.labels a.callers old.state.operands.above (Then (Plain i) a.rest)) a.rest, st.1)
-straight_advances m next c FlowStuck f i old new e named there h k s st =
+    a.step ∙ st.0 m (shaped old a.labels a.callers old.state.operands.above (Then (Plain i) a.rest)) a.rest ∙ ap (Traps (kind_of x)) (same_store old.state new.state st.1)
+straight_moves m next c FlowStuck f i old new e named there h k s st =
     let a = straight_at m old c f i named there h k s in
-    (a.step ∙ st.0 m (shaped old a.labels a.callers old.state.operands.above (Then (Plain i) a.rest)) a.rest, st.1)
+    a.step ∙ st.0 m (shaped old a.labels a.callers old.state.operands.above (Then (Plain i) a.rest)) a.rest
 
 -- ---- a run that stands for a configuration has an instruction at its place
 
@@ -202,37 +194,38 @@ has_instr m r c f named none s =
 pub over_words : (r : Run) (s : State) → Fits r → Keeps r.state s → IsOver s.operands → r.state.operands.room < words_in (in_state r s)
 over_words r s f k o = let l = k.outer in let a = ap length k.outer in omega (arith, f.words, k.most, k.locals, a, o)
 
--- what does not depend on a module, a configuration and code
-no_module : Module
-no_module = record { types = []; funcs = []; memories = []; globals = []; exports = [] }
+-- ---- an instruction behind which a run does not go on
 
-no_config : Config
-no_config = record {
-  frame = record { locals = []; results = 0; labels = []; stack = []; code = Nothing };
-  callers = [];
-  store = record { memory = None; globals = [] };
-}
-
-pub same_of : (old new : State) → ((m : Module) (c : Config) (rest : Code) → SameStore old new) → SameStore old new
-same_of old new h = h no_module no_config Nothing
+pub stops : (o : Outcome) (i : Instr) (next : ℕ) (r : Run) (s : State) → (o ≡ OutcomeGoes → ⊥) → EffectsFollow → is_control i ≡ false → Fits r → Ends o (effect i r.state) r.state s → Straightens (flow_of o) i next r (in_state r s)
+stops OutcomeGoes i next r s not follows h f e = absurd (not refl)
+stops OutcomeFull i next r s not follows h f e =
+    ((λ m d rest. let g = (follows m d rest i OutcomeFull r.state s (is_straight i h) e).0 in (g.0, g.1, g.3, over_words r g.0 f g.3 g.2)), e.1, (e.2, refl, refl))
+stops (OutcomeTraps k) i next r s not follows h f e = ((λ m d rest. (follows m d rest i (OutcomeTraps k) r.state s (is_straight i h) e).0), e.1, (e.2, refl, refl))
+stops OutcomeStuck i next r s not follows h f e = ((λ m d rest. (follows m d rest i OutcomeStuck r.state s (is_straight i h) e).0), e.1, (e.2, refl, refl))
 
 -- ---- whether a step follows
 
-pub full_answers : (room : ℕ) (ch : Change) → IsTooFull room ch → Answers ch true
-full_answers room (Leads r) h = refl
-full_answers room (Returns ws) h = refl
-full_answers room Fails h = absurd h
+answered : (room : ℕ) (flow : Flow) (ch : Change) (old new : Run) → Comes flow ch old new → Answers ch (is_made flow)
+answered room FlowSettles ch old new h = absurd h
+answered room FlowGoes ch old new h = subst (λ x. Answers x true) (sym h.0) refl
+answered room FlowMoves ch old new h = subst (λ x. Answers x true) (sym h.0) refl
+answered room FlowFull (Leads r) old new h = refl
+answered room FlowFull (Returns ws) old new h = absurd h.0
+answered room FlowFull Fails old new h = absurd h.0
+answered room FlowFinishes ch old new h = subst (λ x. Answers x true) (sym h.0) refl
+answered room (FlowTraps k) ch old new h = absurd h
+answered room FlowStuck ch old new h = subst (λ x. Answers x false) (sym h.0) refl
 
 has_change : (m : Module) (room : ℕ) (r : Run) (c : Config) (ch : Change) (b : Bool) → IsStep m r (machine_step m room c) ch → Answers ch b → HasStep m room c b
 has_change m room r c (Leads q) b s h = subst (HasStep m room c) (sym h) (ap (λ v. before_step v c) s.1)
 has_change m room r c (Returns ws) b s h = subst (HasStep m room c) (sym h) (ap (λ v. before_step v c) s)
 has_change m room r c Fails b s h = subst (HasStep m room c) (sym h) (ap (λ v. before_step v c) s)
 
-pub has_control : (m : Module) (js : List (List Jump)) (room next : ℕ) (c : Config) (f : Func) (i : Instr) (r : Run) (b : Bool) → next ≡ r.place.at + 1 → AllNested m → AllLead m js → slice_get m.funcs r.place.func ≡ Some f → slice_get f.body r.place.at ≡ Some i → is_control i ≡ true → Stands m r c → Answers (controlled m js next r i) b → HasStep m room c b
-has_control m js room next c f i r b e nests leads named there h s k =
+pub has_control : (m : Module) (js : List (List Jump)) (room next : ℕ) (c : Config) (flow : Flow) (f : Func) (i : Instr) (r new : Run) → next ≡ r.place.at + 1 → AllNested m → AllLead m js → slice_get m.funcs r.place.func ≡ Some f → slice_get f.body r.place.at ≡ Some i → is_control i ≡ true → Stands m r c → Comes flow (controlled m js next r i) r new → HasStep m room c (is_made flow)
+has_control m js room next c flow f i r new e nests leads named there h s k =
     let n : next ≡ suc r.place.at = e ∙ add-one r.place.at in
     let step = control_step m js room r c f i nests leads named there (controls i h) s in
-    has_change m room r c (controlled m js next r i) b (subst (λ x. IsStep m r (machine_step m room c) (controlled m js x r i)) (sym n) step) k
+    has_change m room r c (controlled m js next r i) (is_made flow) (subst (λ x. IsStep m r (machine_step m room c) (controlled m js x r i)) (sym n) step) (answered room flow (controlled m js next r i) r new k)
 
 has_move : (m : Module) (room : ℕ) (c : Config) (move : Move) (b : Bool) → machine_step m room c ≡ move → b ≡ is_step move → HasStep m room c b
 has_move m room c (Goes d) b e h = subst (HasStep m room c) (sym h) (ap (λ v. before_step v c) e)
@@ -245,3 +238,12 @@ has_straight m c f i r b named there h k s st =
     let a = straight_at m r c f i named there h k s in
     let d = shaped r a.labels a.callers r.state.operands.above (Then (Plain i) a.rest) in
     has_move m (pages_of r.state.memory) c (step_of m d a.rest i r.state) b a.step (st d a.rest)
+
+pub made : (flow : Flow) (i : Instr) (next : ℕ) (r new : Run) (m : Module) (d : Config) (rest : Code) → Straightens flow i next r new → is_made flow ≡ is_step (step_of m d rest i r.state)
+made FlowSettles i next r new m d rest h = absurd h
+made FlowGoes i next r new m d rest h = sym (ap is_step (h.3 m d rest))
+made FlowMoves i next r new m d rest h = absurd h
+made FlowFull i next r new m d rest h = sym (ap is_step (h.0 m d rest).1)
+made FlowFinishes i next r new m d rest h = absurd h
+made (FlowTraps k) i next r new m d rest h = sym (ap is_step (h.0 m d rest))
+made FlowStuck i next r new m d rest h = sym (ap is_step (h.0 m d rest))

@@ -55,7 +55,7 @@ put_stands m r c f i w named there e s =
     subst (Stands m (behind r w)) (sym shape) q
 
 -- by the body that the function has
-body_there : (m : Module) (r : Run) (b : List Instr) (i : Instr) → (h : HasBody m r b) → slice_get b r.place.at ≡ Some i → slice_get h.0.body r.place.at ≡ Some i
+pub body_there : (m : Module) (r : Run) (b : List Instr) (i : Instr) → (h : HasBody m r b) → slice_get b r.place.at ≡ Some i → slice_get h.0.body r.place.at ≡ Some i
 body_there m r b i h e = ap (λ x. slice_get x r.place.at) h.2 ∙ e
 
 pub put_in : (m : Module) (r : Run) (c : Config) (b : List Instr) (i : Instr) (w : Word) → HasBody m r b → slice_get b r.place.at ≡ Some i → constant_word i ≡ Some w → Stands m r c → Stands m (behind r w) c
@@ -98,7 +98,7 @@ still ws b at (I32Const z) own code labels under tail k h = cc
 still ws b at (I64Const z) own code labels under tail k h = cc
 still ws b at i own code labels under tail k h = ap (λ y. length (settle ws y).0) (goes_on b at i own code labels under tail (λ ks. refl) h).is
 
-settled_words : (m : Module) (r : Run) (c : Config) (f : Func) (i : Instr) → slice_get m.funcs r.place.func ≡ Some f → slice_get f.body r.place.at ≡ Some i → is_constant i ≡ false → Stands m r c → words_of c ≡ words_in r
+pub settled_words : (m : Module) (r : Run) (c : Config) (f : Func) (i : Instr) → slice_get m.funcs r.place.func ≡ Some f → slice_get f.body r.place.at ≡ Some i → is_constant i ≡ false → Stands m r c → words_of c ≡ words_in r
 settled_words m r c f i named there k s =
     let u = r.state.operands.below in
     let a = read f.body r.place.at i s.own s.code s.labels u s.tail there (at_func m r.place f s.own s.code s.labels u s.tail named s.inside) in

@@ -21,3 +21,6 @@ pub mod Advanced
 -- constants that are put, and how a run begins
 pub mod Constants
 pub mod First
+-- runs of the definition, and what is carried out in them
+pub mod Running
+pub mod Carried

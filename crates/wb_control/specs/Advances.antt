@@ -1,5 +1,5 @@
--- A step of a run is a step of the definition of execution.
-use Rattle.std.specs.Prelude.{◌≡◌, ℕ, ◌<◌, ◌≤◌, Bool, true, false, Option, Some, None, slice_get}
+-- What an instruction does to a run is what the definition of execution does.
+use Rattle.std.specs.Prelude.{◌≡◌, ℕ, suc, ◌+◌, ◌^◌, ◌<◌, ◌≤◌, Bool, true, false, List, Option, Some, None, slice_get}
 use Rattle.wb_syntax.specs.declared.syntax.NumType.TheVariants.{I32, I64}
 use Rattle.wb_syntax.specs.declared.syntax.Instr.{Instr}
 use Rattle.wb_syntax.specs.declared.syntax.Instr.TheVariants.{Block, Loop, If, Else, End, Br, BrIf, BrTable, Return, Call, I32Const, I64Const}
@@ -7,14 +7,19 @@ use Rattle.wb_syntax.specs.declared.syntax.Func.{Func}
 use Rattle.wb_syntax.specs.declared.syntax.Module.{Module}
 use Rattle.wb_syntax.specs.Syntax.{Code}
 use Rattle.wb_syntax.specs.Numbers.{unsigned}
-use Rattle.wb_syntax.specs.Execute.{Word, word, Config, Goes, Finishes, Traps, NoRule, machine_step}
-use Rattle.wb_syntax.specs.Runs.{words_of, Running, Stuck, before_step}
-use Rattle.wb_plain.specs.Effects.{State, kind_of, SameStore}
-use Rattle.wb_plain.specs.Follows.{store_of, length_of, Keeps, step_of, move_to}
-use Rattle.wb_control.specs.Changes.{Run, Change, Fails, Fits, words_in, results_of, at_place}
+use Rattle.wb_syntax.specs.Execute.{Word, word, Config, Traps, NoRule, machine_step}
+use Rattle.wb_syntax.specs.Runs.{RunEnd, Trapped, StackFull, Running, Stuck, words_of, returned, before_step, runs}
+use Rattle.wb_state.specs.Stack.{put, IsOver}
+use Rattle.wb_plain.specs.Effects.{State, kind_of, SameStore, writes_store}
+use Rattle.wb_plain.specs.Follows.{store_of, pages_of, Keeps, step_of, move_to}
+use Rattle.wb_plain.specs.declared.outcome.Outcome.{Outcome}
+use Rattle.wb_plain.specs.declared.outcome.Outcome.TheVariants.{Goes as OutcomeGoes, Full as OutcomeFull, Traps as OutcomeTraps, Stuck as OutcomeStuck}
+use Rattle.wb_code.specs.declared.leading.Jump.{Jump}
+use Rattle.wb_control.specs.Changes.{Run, Change, Fails, Fits, Comes, SameRooms, words_in, results_of, at_place, with_stack}
+use Rattle.wb_control.specs.Steps.{controlled}
 use Rattle.wb_control.specs.Stands.{Stands}
 use Rattle.wb_control.specs.declared.run.Flow.{Flow}
-use Rattle.wb_control.specs.declared.run.Flow.TheVariants.{Goes as FlowGoes, Full as FlowFull, Finishes as FlowFinishes, Traps as FlowTraps, Stuck as FlowStuck}
+use Rattle.wb_control.specs.declared.run.Flow.TheVariants.{Settles as FlowSettles, Goes as FlowGoes, Moves as FlowMoves, Full as FlowFull, Finishes as FlowFinishes, Traps as FlowTraps, Stuck as FlowStuck}
 
 -- ---- instructions
 
@@ -59,39 +64,85 @@ abbrev pub IsReady : Module → Bool → Run → Type 0
 IsReady m true r = Fits r × IsSettled m r
 IsReady m false r = Unit {0}
 
--- ---- an instruction that is no control instruction
+-- ---- what an instruction does to a run
+
+-- a constant is put so
+abbrev pub Puts : Flow → Word → (next : ℕ) → (old new : Run) → Type 0
+Puts FlowSettles w next old new = (new ≡ at_place (with_stack old (put w old.state.operands)) next) × Fits new
+Puts FlowFull w next old new = IsOver (put w old.state.operands) × SameStore old.state new.state × SameRooms old new
+Puts _ w next old new = ⊥
+
+-- what an instruction comes to that was carried out on the state of a run
+abbrev pub flow_of : Outcome → Flow
+flow_of OutcomeGoes = FlowGoes
+flow_of OutcomeFull = FlowFull
+flow_of (OutcomeTraps k) = FlowTraps k
+flow_of OutcomeStuck = FlowStuck
 
 -- the run in this state
 abbrev pub in_state : Run → State → Run
 in_state r s = record r { state = s }
 
--- the run goes on behind an instruction in the state that its step leaves, or it does not
+-- an instruction that is no control instruction and no constant: the run goes on behind it in the state that its step
+-- leaves, or it does not
 abbrev pub Straightens : Flow → Instr → (next : ℕ) → (old new : Run) → Type 0
 Straightens FlowGoes i next old new =
     (new ≡ at_place (in_state old new.state) next) × Fits new × Keeps old.state new.state
     × ((m : Module) (c : Config) (rest : Code) → step_of m c rest i old.state ≡ move_to c rest new.state)
+    × (writes_store i ≡ false → SameStore old.state new.state)
 Straightens FlowFull i next old new =
     ((m : Module) (c : Config) (rest : Code) → (s : State) × (step_of m c rest i old.state ≡ move_to c rest s) × Keeps old.state s × (old.state.operands.room < words_in (in_state old s)))
-    × SameStore old.state new.state
-Straightens (FlowFinishes w) i next old new = ⊥
-Straightens (FlowTraps k) i next old new = ((m : Module) (c : Config) (rest : Code) → step_of m c rest i old.state ≡ Traps (kind_of k) (store_of old.state)) × SameStore old.state new.state
-Straightens FlowStuck i next old new = ((m : Module) (c : Config) (rest : Code) → step_of m c rest i old.state ≡ NoRule) × SameStore old.state new.state
+    × SameStore old.state new.state × SameRooms old new
+Straightens (FlowTraps k) i next old new = ((m : Module) (c : Config) (rest : Code) → step_of m c rest i old.state ≡ Traps (kind_of k) (store_of old.state)) × SameStore old.state new.state × SameRooms old new
+Straightens FlowStuck i next old new = ((m : Module) (c : Config) (rest : Code) → step_of m c rest i old.state ≡ NoRule) × SameStore old.state new.state × SameRooms old new
+Straightens _ i next old new = ⊥
 
--- ---- any instruction
+-- an instruction is carried out so
+abbrev pub Carries : Flow → Module → List (List Jump) → (next : ℕ) → Instr → (old new : Run) → Type 0
+Carries flow m js next i old new = elim (constant_word i) [
+  | Some w ↦ Puts flow w next old new
+  | None ↦ elim (is_control i) [ true ↦ Comes flow (controlled m js next old i) old new | false ↦ Straightens flow i next old new ]
+]
 
--- the step of the definition is this one
-abbrev pub Advances : Module → (room : ℕ) → Config → Flow → (old new : Run) → Type 0
-Advances m room c FlowGoes old new =
-    (d : Config) × (machine_step m room c ≡ Goes d) × Stands m new d × Fits new × (length_of new.state.memory ≡ length_of old.state.memory)
-Advances m room c FlowFull old new = (d : Config) × (machine_step m room c ≡ Goes d) × (old.state.operands.room < words_of d) × SameStore old.state new.state
-Advances m room c (FlowFinishes w) old new = (machine_step m room c ≡ Finishes (results_of w) (store_of old.state)) × SameStore old.state new.state
-Advances m room c (FlowTraps k) old new = (machine_step m room c ≡ Traps (kind_of k) (store_of old.state)) × SameStore old.state new.state
-Advances m room c FlowStuck old new = (machine_step m room c ≡ NoRule) × SameStore old.state new.state
+-- ---- runs
+
+-- the run of the definition from a configuration, with the memory and the words of this run
+abbrev pub runs_from : Module → Run → (limit : ℕ) → Config → RunEnd
+runs_from m r n c = runs m (pages_of r.state.memory) r.state.operands.room n c
+
+-- the first step from this configuration leads to one for which the run stands that is left
+abbrev pub StepsTo : Module → Config → (old new : Run) → Type 0
+StepsTo m c old new = (d : Config) × Stands m new d × ((n : ℕ) → runs_from m old (suc n) c ≡ runs_from m old n d)
+
+-- how the run of the definition goes on from a configuration, where it may make a step and any number more
+abbrev pub Advances : Module → Config → Flow → (old new : Run) → Type 0
+Advances m c FlowSettles old new = Stands m new c
+Advances m c FlowGoes old new = StepsTo m c old new
+Advances m c FlowMoves old new = StepsTo m c old new
+Advances m c FlowFull old new = (n : ℕ) → runs_from m old (suc n) c ≡ StackFull
+Advances m c FlowFinishes old new = (n : ℕ) → runs_from m old (suc n) c ≡ returned (results_of new.result) (store_of new.state)
+Advances m c (FlowTraps k) old new = (n : ℕ) → runs_from m old (suc n) c ≡ Trapped (kind_of k) (store_of new.state)
+Advances m c FlowStuck old new = (n : ℕ) → runs_from m old (suc n) c ≡ Stuck
 
 -- a run that goes on fits
 abbrev pub FitsOn : Flow → Run → Type 0
+FitsOn FlowSettles r = Fits r
 FitsOn FlowGoes r = Fits r
+FitsOn FlowMoves r = Fits r
 FitsOn _ r = Unit {0}
+
+-- where a run goes on that stays in its frame
+abbrev pub Stays : Flow → (old new : Run) → Type 0
+Stays FlowSettles old new = (new.place.func ≡ old.place.func) × (new.place.at ≡ old.place.at + 1) × (new.place.at < 2 ^ 64)
+Stays FlowGoes old new = new.place.func ≡ old.place.func
+Stays _ old new = Unit {0}
+
+-- ---- whether a step follows
+
+-- an instruction has a step
+abbrev pub is_made : Flow → Bool
+is_made FlowStuck = false
+is_made _ = true
 
 -- a change is made or not
 abbrev pub Answers : Change → Bool → Type 0

@@ -9,7 +9,7 @@ use Rattle.wb_control.specs.Piles.{Label, Caller}
 use Rattle.wb_state.specs.declared.words.Word.{Word as Held}
 pub use Rattle.wb_control.specs.declared.run.Run.{Run}
 use Rattle.wb_control.specs.declared.run.Flow.{Flow}
-use Rattle.wb_control.specs.declared.run.Flow.TheVariants.{Goes, Full, Finishes, Traps, Stuck}
+use Rattle.wb_control.specs.declared.run.Flow.TheVariants.{Settles, Goes, Moves, Full, Finishes, Traps, Stuck}
 
 -- ---- words
 
@@ -60,13 +60,20 @@ abbrev pub IsTooFull : (room : ℕ) → Change → Type 0
 IsTooFull room (Leads r) = room < words_in r
 IsTooFull room _ = ⊥
 
--- a change is answered so
+-- a change of a control instruction is answered so
 abbrev pub Comes : Flow → Change → (old new : Run) → Type 0
-Comes Goes c old new = (c ≡ Leads new) × Fits new × SameStore old.state new.state × SameRooms old new
+Comes Settles c old new = ⊥
+Comes Goes c old new = (c ≡ Leads new) × Fits new × SameStore old.state new.state × SameRooms old new × (new.place.func ≡ old.place.func)
+Comes Moves c old new = (c ≡ Leads new) × Fits new × SameStore old.state new.state × SameRooms old new
 Comes Full c old new = IsTooFull old.state.operands.room c × SameStore old.state new.state × SameRooms old new
-Comes (Finishes w) c old new = (c ≡ Returns (results_of w)) × SameStore old.state new.state × SameRooms old new
+Comes Finishes c old new = (c ≡ Returns (results_of new.result)) × SameStore old.state new.state × SameRooms old new
 Comes (Traps k) c old new = ⊥
 Comes Stuck c old new = (c ≡ Fails) × SameStore old.state new.state × SameRooms old new
+
+-- this run is the one that is left, or there is no room for it
+abbrev pub HasRoom : Run → Bool → (old new : Run) → Type 0
+HasRoom q true old new = (q ≡ new) × Fits new × SameStore old.state new.state × SameRooms old new
+HasRoom q false old new = (old.state.operands.room < words_in q) × SameStore old.state new.state × SameRooms old new
 
 -- ---- constructs
 

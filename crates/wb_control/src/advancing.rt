@@ -1,106 +1,74 @@
-//! One step of a run.
+//! One instruction of a run, and whether a step follows.
 
-ghost use Rattle.std.specs.Prelude.{◌≡◌, false};
+ghost use Rattle.std.specs.Prelude.{◌≡◌, true};
 ghost use Rattle.wb_syntax.specs.Execute.{Config};
-ghost use Rattle.wb_plain.specs.Effects.{SameStore};
+ghost use Rattle.wb_plain.specs.Effects.{SameStore, SameRoom, effect, has_effect, writes_store};
 ghost use Rattle.wb_plain.specs.Follows.{pages_of, length_of};
 ghost use Rattle.wb_control.specs.Changes.{Fits, SameRooms};
-ghost use Rattle.wb_control.specs.Stands.{AllNested, AllLead, Stands};
-ghost use Rattle.wb_control.specs.Advances.{is_control, IsSettled, Straightens, Advances, FitsOn, Answers, HasStep};
-ghost use Rattle.wb_control.specs.Steps.{controlled};
+ghost use Rattle.wb_control.specs.Stands.{HasBody, AllNested, AllLead, Stands};
+ghost use Rattle.wb_control.specs.Advances.{IsSettled, Advances, FitsOn, Stays, HasStep, is_made};
 
-use crate::controlling::control;
+use crate::carrying::carry_out;
 use crate::run::{Flow, Run};
 use sqlite_items::Items;
 use wb_code::Jump;
-use wb_plain::Outcome;
+use wb_plain::{can_set_global, can_store, effects_are_steps};
+use wb_state::State;
 use wb_syntax::{Instr, Module};
 
-/// Whether this is a control instruction.
-fn is_control(instr: &Instr) -> bool
-    ensures { result ≡ is_control instr.now }
+/// Carries out the instruction at the place of a run whose jumps are known, in the body of its function: a step, or a
+/// constant, which is none.
+#[inline(always)]
+pub fn advance(run: &mut Run, m: &Module, jumps: &[Items<Jump>], body: &[Instr]) -> Flow
+    requires fits { Fits run.old }
+    requires body { HasBody m.now run.old body.now }
+    ensures advances { (c : Config) → AllNested m.now → AllLead m.now jumps.now → Stands m.now run.old c → Advances m.now c result run.old run.new }
+    ensures fits { FitsOn result run.new }
+    ensures stays { Stays result run.old run.new }
+    ensures size { length_of run.new.state.memory ≡ length_of run.old.state.memory }
+    ensures room { SameRooms run.old run.new }
+{
+    let count = body.len();
+    if run.place.at >= count {
+        return Flow::Stuck;
+    }
+    let words = run.state.operands.height();
+    prove!(words <= 0x1_0000_0000);
+    let next = run.place.at + 1;
+    carry_out(run, m, jumps, &body[run.place.at], next)
+}
+
+/// Whether this is an instruction that writes to memory or to a global.
+fn writes_store(instr: &Instr) -> bool
+    ensures { result ≡ writes_store instr.now }
 {
     match instr {
-        Instr::Block(_)
-        | Instr::Loop(_)
-        | Instr::If(_)
-        | Instr::Else
-        | Instr::End
-        | Instr::Br(_)
-        | Instr::BrIf(_)
-        | Instr::BrTable(_, _)
-        | Instr::Return
-        | Instr::Call(_) => true,
+        Instr::GlobalSet(_) | Instr::Store(_, _, _) => true,
         _ => false,
     }
 }
 
-/// Carries out an instruction that is no control instruction, which stands before `next`.
-#[tactic(auto, using(crate::proofs::Advanced::is_straight))]
-#[inline(always)]
-fn straight(run: &mut Run, instr: &Instr, next: usize) -> Flow
-    requires fits { Fits run.old }
-    requires straight { is_control instr.now ≡ false }
-    ensures straightens { Straightens result instr.now next run.old run.new }
-    ensures size { length_of run.new.state.memory ≡ length_of run.old.state.memory }
-    ensures room { SameRooms run.old run.new }
+/// Whether an instruction that writes to memory or to a global has an effect; takes its operands alone.
+fn can_write(state: &mut State, instr: &Instr) -> bool
+    requires { writes_store instr.now ≡ true }
+    ensures effect { result ≡ has_effect (effect instr.now state.old) }
+    ensures store { SameStore state.old state.new }
+    ensures room { SameRoom state.old state.new }
 {
-    match wb_plain::step(&mut run.state, instr) {
-        Outcome::Goes => {
-            run.place.at = next;
-            Flow::Goes
-        }
-        Outcome::Full => Flow::Full,
-        Outcome::Traps(kind) => Flow::Traps(kind),
-        Outcome::Stuck => Flow::Stuck,
+    match instr {
+        Instr::GlobalSet(index) => can_set_global(state, *index),
+        Instr::Store(op, _, offset) => can_store(state, *op, *offset),
+        _ => false,
     }
 }
 
-/// Makes one step of a run whose jumps are known, at an instruction that is no constant.
-#[inline(always)]
-pub fn advance(run: &mut Run, m: &Module, jumps: &[Items<Jump>]) -> Flow
-    requires fits { Fits run.old }
-    requires settled { IsSettled m.now run.old }
-    ensures advances { (c : Config) → AllNested m.now → AllLead m.now jumps.now → Stands m.now run.old c → Advances m.now (pages_of run.old.state.memory) c result run.old run.new }
-    ensures fits { FitsOn result run.new }
-    ensures size { length_of run.new.state.memory ≡ length_of run.old.state.memory }
-    ensures room { SameRooms run.old run.new }
+/// Whether an instruction that was carried out has a step.
+fn is_made(flow: Flow) -> bool
+    ensures { result ≡ is_made flow }
 {
-    let Some(func) = m.funcs.get(run.place.func) else {
-        return Flow::Stuck;
-    };
-    let Some(instr) = func.body.get(run.place.at) else {
-        return Flow::Stuck;
-    };
-    let count = func.body.len();
-    prove!(run.place.at < count);
-    let next = run.place.at + 1;
-    if is_control(instr) {
-        control(run, m, jumps, instr, next)
-    } else {
-        straight(run, instr, next)
-    }
-}
-
-/// Whether a control instruction, which stands before `next`, has a step; carries it out.
-fn has_control_step(
-    run: &mut Run,
-    m: &Module,
-    jumps: &[Items<Jump>],
-    instr: &Instr,
-    next: usize,
-) -> bool
-    requires { Fits run.old }
-    ensures step { Answers (controlled m.now jumps.now next run.old instr.now) result }
-    ensures store { SameStore run.old.state run.new.state }
-    ensures room { SameRooms run.old run.new }
-{
-    match control(run, m, jumps, instr, next) {
+    match flow {
         Flow::Stuck => false,
-        Flow::Goes => true,
-        Flow::Full => true,
-        Flow::Finishes(_) => true,
-        Flow::Traps(_) => true,
+        _ => true,
     }
 }
 
@@ -121,9 +89,10 @@ pub fn has_step(run: &mut Run, m: &Module, jumps: &[Items<Jump>]) -> bool
     let count = func.body.len();
     prove!(run.place.at < count);
     let next = run.place.at + 1;
-    if is_control(instr) {
-        has_control_step(run, m, jumps, instr, next)
+    if writes_store(instr) {
+        effects_are_steps();
+        can_write(&mut run.state, instr)
     } else {
-        wb_plain::has_step(&mut run.state, instr)
+        is_made(carry_out(run, m, jumps, instr, next))
     }
 }

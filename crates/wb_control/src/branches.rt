@@ -1,7 +1,7 @@
 //! Branches, and the ends of functions.
 
 ghost use Rattle.std.specs.Prelude.{◌≡◌, ◌+◌, ◌<◌, length};
-ghost use Rattle.wb_control.specs.Changes.{Fits, Comes, others_in, Leads, TakesResult, popped, results_of, with_results, own_labels, back_in, at_label, returned, finished, ended, branched};
+ghost use Rattle.wb_control.specs.Changes.{Fits, Comes, HasRoom, others_in, TakesResult, popped, results_of, with_results, own_labels, back_in, at_label, returned, finished, ended, branched};
 
 use crate::constructs::leave;
 use crate::run::{Caller, Flow, Label, Run};
@@ -21,20 +21,14 @@ fn take_result(operands: &mut Operands, wanted: bool) -> Option<Option<Word>>
     }
 }
 
-/// Puts a result on top, where there is one.
-fn put_result(run: &mut Run, carried: Option<Word>) -> Flow
+/// Puts a result on top, where there is one; says whether there was room for it.
+fn put_result(run: &mut Run, carried: Option<Word>) -> bool
     requires { Fits run.old }
-    ensures { Comes result (Leads (with_results (results_of carried) run.old)) run.old run.new }
+    ensures { HasRoom (with_results (results_of carried) run.old) result run.old run.new }
 {
     match carried {
-        None => Flow::Goes,
-        Some(word) => {
-            if run.state.operands.put(word) {
-                Flow::Goes
-            } else {
-                Flow::Full
-            }
-        }
+        None => true,
+        Some(word) => run.state.operands.put(word),
     }
 }
 
@@ -72,10 +66,17 @@ pub(crate) fn leave_frame(run: &mut Run) -> Flow
         return Flow::Stuck;
     };
     match run.callers.pop() {
-        None => Flow::Finishes(result),
+        None => {
+            run.result = result;
+            Flow::Finishes
+        }
         Some(caller) => {
             go_back(run, caller);
-            put_result(run, result)
+            if put_result(run, result) {
+                Flow::Moves
+            } else {
+                Flow::Full
+            }
         }
     }
 }
@@ -138,5 +139,9 @@ pub(crate) fn branch(run: &mut Run, index: usize) -> Flow
         return Flow::Stuck;
     };
     go_to(run, index, label);
-    put_result(run, carried)
+    if put_result(run, carried) {
+        Flow::Goes
+    } else {
+        Flow::Full
+    }
 }

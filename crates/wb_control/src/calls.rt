@@ -117,7 +117,7 @@ fn open_frame(run: &mut Run, index: u32, func: &Func, ty: &FuncType, next: usize
         labels: run.labels.len(),
         bottom,
     };
-    Flow::Goes
+    Flow::Moves
 }
 
 /// Calls a function, and goes on at `next` behind it.

@@ -1,19 +1,18 @@
-//! Control instructions.
+//! Constructs and branches that depend on a jump or on a number.
 
 ghost use Rattle.std.specs.Prelude.{◌≡◌};
 ghost use Rattle.wb_syntax.specs.declared.syntax.NumType.TheVariants.{I32};
 ghost use Rattle.wb_syntax.specs.Execute.{chosen};
 ghost use Rattle.wb_state.specs.Stack.{take_word};
-ghost use Rattle.wb_control.specs.Changes.{Fits, Comes, Leads, entered};
-ghost use Rattle.wb_control.specs.Steps.{jump_of, blocked, passed_over, tested, branched_if, branched_by, controlled};
+ghost use Rattle.wb_control.specs.Changes.{Fits, Comes};
+ghost use Rattle.wb_control.specs.Steps.{jump_of, blocked, passed_over, tested, branched_if, branched_by};
 
-use crate::branches::{branch, end, leave_frame};
-use crate::calls::call;
+use crate::branches::branch;
 use crate::constructs::{enter, leave};
 use crate::run::{Flow, Run};
 use sqlite_items::Items;
 use wb_code::Jump;
-use wb_syntax::{Instr, Module, NumType};
+use wb_syntax::NumType;
 
 /// The jump of the instruction at a place.
 fn jump_at(jumps: &[Items<Jump>], func: usize, at: usize) -> Option<Jump>
@@ -26,33 +25,33 @@ fn jump_at(jumps: &[Items<Jump>], func: usize, at: usize) -> Option<Jump>
 }
 
 /// Enters a block.
-fn block(run: &mut Run, ty: Option<NumType>, next: usize, jump: Option<Jump>) -> Flow
+pub(crate) fn block(run: &mut Run, jumps: &[Items<Jump>], ty: Option<NumType>, next: usize) -> Flow
     requires { Fits run.old }
-    ensures { Comes result (blocked ty next run.old jump) run.old run.new }
+    ensures { Comes result (blocked ty next run.old (jump_of jumps.now run.old.place.func run.old.place.at)) run.old run.new }
 {
-    match jump {
+    match jump_at(jumps, run.place.func, run.place.at) {
         None => Flow::Stuck,
         Some(jump) => enter(run, ty.is_some(), jump.past, next),
     }
 }
 
 /// Leaves the first branch of an if.
-fn pass_over(run: &mut Run, jump: Option<Jump>) -> Flow
+pub(crate) fn pass_over(run: &mut Run, jumps: &[Items<Jump>]) -> Flow
     requires { Fits run.old }
-    ensures { Comes result (passed_over run.old jump) run.old run.new }
+    ensures { Comes result (passed_over run.old (jump_of jumps.now run.old.place.func run.old.place.at)) run.old run.new }
 {
-    match jump {
+    match jump_at(jumps, run.place.func, run.place.at) {
         None => Flow::Stuck,
         Some(jump) => leave(run, jump.past),
     }
 }
 
 /// Enters a branch of an if, by the topmost number.
-fn test(run: &mut Run, ty: Option<NumType>, next: usize, jump: Option<Jump>) -> Flow
+pub(crate) fn test(run: &mut Run, jumps: &[Items<Jump>], ty: Option<NumType>, next: usize) -> Flow
     requires { Fits run.old }
-    ensures { Comes result (tested ty next run.old jump) run.old run.new }
+    ensures { Comes result (tested ty next run.old (jump_of jumps.now run.old.place.func run.old.place.at)) run.old run.new }
 {
-    let Some(jump) = jump else {
+    let Some(jump) = jump_at(jumps, run.place.func, run.place.at) else {
         return Flow::Stuck;
     };
     let Some(condition) = run.state.operands.take(NumType::I32) else {
@@ -66,7 +65,8 @@ fn test(run: &mut Run, ty: Option<NumType>, next: usize, jump: Option<Jump>) -> 
 }
 
 /// Branches where the topmost number is not zero.
-fn branch_if(run: &mut Run, index: u32, next: usize) -> Flow
+#[inline(always)]
+pub(crate) fn branch_if(run: &mut Run, index: u32, next: usize) -> Flow
     requires { Fits run.old }
     ensures { Comes result (branched_if index next run.old (take_word I32 run.old.state.operands)) run.old run.new }
 {
@@ -92,7 +92,7 @@ fn chosen_label(labels: &[u32], last: u32, at: u64) -> u32
 }
 
 /// Branches by a table, at the topmost number.
-fn branch_by(run: &mut Run, labels: &[u32], last: u32) -> Flow
+pub(crate) fn branch_by(run: &mut Run, labels: &[u32], last: u32) -> Flow
     requires { Fits run.old }
     ensures { Comes result (branched_by labels.now last run.old (take_word I32 run.old.state.operands)) run.old run.new }
 {
@@ -100,43 +100,4 @@ fn branch_by(run: &mut Run, labels: &[u32], last: u32) -> Flow
         return Flow::Stuck;
     };
     branch(run, chosen_label(labels, last, at) as usize)
-}
-
-/// Carries out a control instruction, which stands before `next`.
-#[inline(always)]
-pub(crate) fn control(
-    run: &mut Run,
-    m: &Module,
-    jumps: &[Items<Jump>],
-    instr: &Instr,
-    next: usize,
-) -> Flow
-    requires { Fits run.old }
-    ensures { Comes result (controlled m.now jumps.now next run.old instr.now) run.old run.new }
-{
-    match instr {
-        Instr::Block(ty) => {
-            let jump = jump_at(jumps, run.place.func, run.place.at);
-            block(run, *ty, next, jump)
-        }
-        Instr::Loop(_) => {
-            let at = run.place.at;
-            enter(run, false, at, next)
-        }
-        Instr::If(ty) => {
-            let jump = jump_at(jumps, run.place.func, run.place.at);
-            test(run, *ty, next, jump)
-        }
-        Instr::Else => {
-            let jump = jump_at(jumps, run.place.func, run.place.at);
-            pass_over(run, jump)
-        }
-        Instr::End => end(run, next),
-        Instr::Br(index) => branch(run, *index as usize),
-        Instr::BrIf(index) => branch_if(run, *index, next),
-        Instr::BrTable(labels, last) => branch_by(run, labels.as_slice(), *last),
-        Instr::Return => leave_frame(run),
-        Instr::Call(index) => call(run, m, *index, next),
-        _ => Flow::Stuck,
-    }
 }

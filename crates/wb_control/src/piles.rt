@@ -47,7 +47,7 @@ impl Labels {
         requires { length self.old.items < self.old.room }
         ensures { self.new ≡ record self.old { items = item ∷ self.old.items } }
     {
-        self.items.push(item).unwrap();
+        self.items.push_reserved(item);
     }
 
     /// The one on top, taken off.
@@ -125,7 +125,7 @@ impl Callers {
         requires { length self.old.items < self.old.room }
         ensures { self.new ≡ record self.old { items = item ∷ self.old.items } }
     {
-        self.items.push(item).unwrap();
+        self.items.push_reserved(item);
     }
 
     /// The one on top, taken off.

@@ -53,17 +53,23 @@ pub struct Run {
     pub callers: Callers,
     /// The place in the frame that is run.
     pub place: Place,
+    /// The result of the first frame, where that was left.
+    pub result: Option<Word>,
 }
 
-/// What a step of control comes to.
+/// What an instruction comes to.
 #[derive(Clone, Copy, Debug, PartialEq, Eq)]
 pub enum Flow {
-    /// The run goes on.
+    /// A constant was put, which is no step.
+    Settles,
+    /// A step was made, and the run goes on in the same frame.
     Goes,
+    /// A step was made, and the run goes on in another frame.
+    Moves,
     /// The run would go on with more words than there is room for.
     Full,
-    /// The first frame is left, with its result.
-    Finishes(Option<Word>),
+    /// The first frame is left; its result is in the run.
+    Finishes,
     Traps(TrapKind),
     /// No rule applies.
     Stuck,

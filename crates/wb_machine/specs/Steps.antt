@@ -1,23 +1,26 @@
--- One step of a run, and the rest of it.
-use Rattle.std.specs.Prelude.{◌≡◌, ℕ, suc, Option, Some, None}
+-- How a run goes on, and how it ends.
+use Rattle.std.specs.Prelude.{◌≡◌, ℕ, List, Option, Some, None, slice_get}
+use Rattle.std.specs.Borrow.{Bor}
+use Rattle.wb_syntax.specs.declared.syntax.Instr.{Instr}
+use Rattle.wb_syntax.specs.declared.syntax.Func.{Func}
 use Rattle.wb_syntax.specs.declared.syntax.Module.{Module}
-use Rattle.wb_syntax.specs.Execute.{Config}
-use Rattle.wb_syntax.specs.Runs.{runs}
-use Rattle.wb_plain.specs.Follows.{store_of, pages_of}
-use Rattle.wb_control.specs.declared.run.Run.{Run}
-use Rattle.wb_control.specs.Changes.{Fits}
-use Rattle.wb_control.specs.Stands.{Stands}
+use Rattle.wb_syntax.specs.Execute.{Word, TheStore}
+use Rattle.wb_syntax.specs.Runs.{StackFull, Stuck, Trapped, returned}
+use Rattle.wb_plain.specs.Effects.{kind_of}
+use Rattle.wb_control.specs.declared.run.Flow.{Flow}
+use Rattle.wb_control.specs.declared.run.Flow.TheVariants.{Full, Finishes, Traps, Stuck as IsStuck}
 use Rattle.wb_machine.specs.Ends.{EndsAs}
 use Rattle.wb_machine.specs.declared.ends.MachineEnd.{MachineEnd}
 
--- the run that is left stands for a configuration from which the run of the definition goes on; or that run ends so
--- within its next step
-abbrev pub StepsOn : Module → Config → Option MachineEnd → (old new : Run) → Type 0
-StepsOn m c None old new =
-    (d : Config) × Stands m new d × ((n : ℕ) → let room = pages_of old.state.memory in let words = old.state.operands.room in runs m room words (suc n) c ≡ runs m room words n d)
-StepsOn m c (Some e) old new = (n : ℕ) → EndsAs (runs m (pages_of old.state.memory) old.state.operands.room (suc n) c) e (store_of new.state)
+-- this is the body of the function of this index, or there is no such function
+abbrev pub FindsBody : Module → ℕ → Option (Bor (List Instr)) → Type 0
+FindsBody m x None = slice_get m.funcs x ≡ None
+FindsBody m x (Some b) = (f : Func) × (slice_get m.funcs x ≡ Some f) × (f.body ≡ b.now)
 
--- a run that goes on fits
-abbrev pub FitsWhereItGoes : Option MachineEnd → Run → Type 0
-FitsWhereItGoes None r = Fits r
-FitsWhereItGoes (Some e) r = Unit {0}
+-- the run that ends so, with these results where its first frame was left, is answered so
+abbrev pub Closes : Flow → (results : List Word) → (left : TheStore) → MachineEnd → Type 0
+Closes Full ws s e = EndsAs StackFull e s
+Closes Finishes ws s e = EndsAs (returned ws s) e s
+Closes (Traps k) ws s e = EndsAs (Trapped (kind_of k) s) e s
+Closes IsStuck ws s e = EndsAs Stuck e s
+Closes _ ws s e = Unit {0}

@@ -7,7 +7,7 @@ ghost use Rattle.wb_plain.specs.Follows.{store_of, pages_of, length_of};
 ghost use Rattle.wb_control.specs.Changes.{IsRoomy, Fits, SameRooms, results_of};
 ghost use Rattle.wb_control.specs.Stands.{AllNested, AllLead, Stands};
 ghost use Rattle.wb_machine.specs.Ends.{EndsAs};
-ghost use Rattle.wb_machine.specs.Steps.{StepsOn, FitsWhereItGoes};
+ghost use Rattle.wb_machine.specs.Steps.{FindsBody, Closes};
 
 use crate::ends::MachineEnd;
 use crate::entry::find_main;
@@ -15,7 +15,7 @@ use sqlite_items::Items;
 use wb_code::Jump;
 use wb_control::{Flow, Run, advance, begin, has_step, settle};
 use wb_state::Word;
-use wb_syntax::Module;
+use wb_syntax::{Instr, Module};
 
 /// The end of a run whose first frame is left with this result.
 fn returned(word: Option<Word>) -> MachineEnd
@@ -28,24 +28,17 @@ fn returned(word: Option<Word>) -> MachineEnd
     }
 }
 
-/// Makes a step; says how the run ends, where it does not go on.
-#[inline(always)]
-fn step(run: &mut Run, m: &Module, jumps: &[Items<Jump>]) -> Option<MachineEnd>
-    requires { Fits run.old }
-    ensures step { (c : Config) → AllNested m.now → AllLead m.now jumps.now → Stands m.now run.old c → StepsOn m.now c result run.old run.new }
-    ensures fits { FitsWhereItGoes result run.new }
-    ensures size { length_of run.new.state.memory ≡ length_of run.old.state.memory }
-    ensures room { SameRooms run.old run.new }
+/// How a run ends that does not go on, and whose first frame left this result, where it was left.
+#[cold]
+#[inline(never)]
+fn end_of(flow: Flow, word: Option<Word>) -> MachineEnd
+    ensures { (s : TheStore) → Closes flow (results_of word) s result }
 {
-    if !settle(run, m) {
-        return Some(MachineEnd::StackFull);
-    }
-    match advance(run, m, jumps) {
-        Flow::Goes => None,
-        Flow::Full => Some(MachineEnd::StackFull),
-        Flow::Finishes(word) => Some(returned(word)),
-        Flow::Traps(kind) => Some(MachineEnd::Trap(kind)),
-        Flow::Stuck => Some(MachineEnd::Stuck),
+    match flow {
+        Flow::Full => MachineEnd::StackFull,
+        Flow::Finishes => returned(word),
+        Flow::Traps(kind) => MachineEnd::Trap(kind),
+        Flow::Stuck | Flow::Settles | Flow::Goes | Flow::Moves => MachineEnd::Stuck,
     }
 }
 
@@ -66,6 +59,16 @@ fn stop(run: &mut Run, m: &Module, jumps: &[Items<Jump>]) -> MachineEnd
     }
 }
 
+/// The body of a function.
+fn body_of(m: &Module, func: usize) -> Option<&[Instr]>
+    ensures { FindsBody m.now func result }
+{
+    match m.funcs.get(func) {
+        None => None,
+        Some(func) => Some(func.body.as_slice()),
+    }
+}
+
 /// Makes at most so many steps, and says how the run ends.
 fn steps(run: &mut Run, m: &Module, jumps: &[Items<Jump>], limit: u64) -> MachineEnd
     requires { Fits run.old }
@@ -73,9 +76,22 @@ fn steps(run: &mut Run, m: &Module, jumps: &[Items<Jump>], limit: u64) -> Machin
     ensures size { length_of run.new.state.memory ≡ length_of run.old.state.memory }
     ensures room { SameRooms run.old run.new }
 {
-    for _made in 0..limit {
-        if let Some(end) = step(run, m, jumps) {
-            return end;
+    let Some(mut body) = body_of(m, run.place.func) else {
+        return MachineEnd::Stuck;
+    };
+    let mut left = limit;
+    while left > 0 {
+        match advance(run, m, jumps, body) {
+            Flow::Settles => {}
+            Flow::Goes => left -= 1,
+            Flow::Moves => {
+                left -= 1;
+                let Some(other) = body_of(m, run.place.func) else {
+                    return MachineEnd::Stuck;
+                };
+                body = other;
+            }
+            flow => return end_of(flow, run.result),
         }
     }
     stop(run, m, jumps)

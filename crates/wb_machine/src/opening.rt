@@ -124,5 +124,6 @@ pub(crate) fn first_run(alloc: Global, m: &Module, words: usize) -> Result<Run, 
             labels: 0,
             bottom: 0,
         },
+        result: None,
     })
 }

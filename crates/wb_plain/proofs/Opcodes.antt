@@ -65,22 +65,6 @@ pub extensions : (op : ℕ) → 172 ≤ op → op ≤ 173 → types I32 I64 ≡ 
 unfolding row_at
 extensions op from to = types_are I32 I64 (unary_types (row_at op)) (holds_at (λ k. are I32 I64 (unary_types (row_at k))) 2 172 op refl from (omega arith))
 
-pub narrow_comparisons : (op : ℕ) → 70 ≤ op → op ≤ 79 → types I32 I32 ≡ binary_types (row_at op)
-unfolding row_at
-narrow_comparisons op from to = types_are I32 I32 (binary_types (row_at op)) (holds_at (λ k. are I32 I32 (binary_types (row_at k))) 10 70 op refl from (omega arith))
-
-pub wide_comparisons : (op : ℕ) → 81 ≤ op → op ≤ 90 → types I64 I32 ≡ binary_types (row_at op)
-unfolding row_at
-wide_comparisons op from to = types_are I64 I32 (binary_types (row_at op)) (holds_at (λ k. are I64 I32 (binary_types (row_at k))) 10 81 op refl from (omega arith))
-
-pub narrow_arithmetic : (op : ℕ) → 106 ≤ op → op ≤ 120 → types I32 I32 ≡ binary_types (row_at op)
-unfolding row_at
-narrow_arithmetic op from to = types_are I32 I32 (binary_types (row_at op)) (holds_at (λ k. are I32 I32 (binary_types (row_at k))) 15 106 op refl from (omega arith))
-
-pub wide_arithmetic : (op : ℕ) → 124 ≤ op → op ≤ 138 → types I64 I64 ≡ binary_types (row_at op)
-unfolding row_at
-wide_arithmetic op from to = types_are I64 I64 (binary_types (row_at op)) (holds_at (λ k. are I64 I64 (binary_types (row_at k))) 15 124 op refl from (omega arith))
-
 -- ---- opcodes that have no such row
 
 abbrev if_then : Bool → Bool → Bool

@@ -2,5 +2,6 @@
 pub mod Effects
 pub mod Follows
 pub mod Syntax
+pub mod Laws
 -- What the contracts of private functions cite.
 pub mod Rows

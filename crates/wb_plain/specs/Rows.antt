@@ -3,9 +3,13 @@ use Rattle.std.specs.Prelude.{ℕ, Bool, true, false, Option, Some, None}
 use Rattle.wb_syntax.specs.declared.syntax.NumType.{NumType}
 use Rattle.wb_syntax.specs.Table.{Extension, Signed, Unsigned, Row, Loads, Stores, Takes1, Takes2}
 use Rattle.wb_state.specs.Bytes.{bytes_in}
-pub use Rattle.wb_plain.specs.declared.operations.Operation.{Operation}
-pub use Rattle.wb_plain.specs.declared.operations.LoadKind.{LoadKind}
-pub use Rattle.wb_plain.specs.declared.operations.StoreKind.{StoreKind}
+pub use Rattle.wb_plain.specs.declared.kinds.LoadKind.{LoadKind}
+pub use Rattle.wb_plain.specs.declared.kinds.StoreKind.{StoreKind}
+
+-- the type of the operands of an operation, and that of its result
+pub record Operation : Type 0 where
+  pub takes : NumType
+  pub gives : NumType
 
 -- the types of an operation with one operand
 abbrev pub unary_types : Row → Option Operation

@@ -9,8 +9,8 @@ ghost use Rattle.wb_state.specs.Bytes.{bytes_in};
 ghost use Rattle.wb_plain.specs.Rows.{sign_of, load_types, store_types};
 ghost use Rattle.wb_plain.specs.Effects.{Ends, SameStore, SameRoom, has_effect, load_typed, store_typed, size_in, grow_in};
 
+use crate::kinds::{LoadKind, load_kind, store_kind};
 use crate::numeric::put;
-use crate::operations::{LoadKind, load_kind, store_kind};
 use crate::outcome::{Outcome, TrapKind};
 use wb_state::{State, Width, Word};
 use wb_syntax::NumType;
@@ -60,6 +60,7 @@ fn extended(kind: LoadKind, number: u64) -> u64
 }
 
 /// A load from a base, which is on top, and an offset.
+#[inline(always)]
 pub fn load(state: &mut State, op: u8, offset: u32) -> Outcome
     ensures { Ends result (load_typed offset state.old (load_types (row_at op))) state.old state.new }
 {
@@ -79,6 +80,7 @@ pub fn load(state: &mut State, op: u8, offset: u32) -> Outcome
 }
 
 /// A store of the topmost word, at a base below it and an offset.
+#[inline(always)]
 pub fn store(state: &mut State, op: u8, offset: u32) -> Outcome
     ensures { Ends result (store_typed offset state.old (store_types (row_at op))) state.old state.new }
 {

@@ -1,23 +1,27 @@
 //! Instructions that are no jumps: what a machine does at constants, numeric operations, locals, globals, memory, and at
-//! `drop`, `select`, `nop` and `unreachable`.
+//! `drop` and `select`.
 //!
-//! [`step`] carries out one of them on a state ([`wb_state`]). Its contract is the definition of execution (`wb_syntax`,
-//! `Execute`): for every module, every configuration that has the locals and the store of the state, and every code that
-//! follows, the state that is left is that of the definition's step, or the step traps for the same reason, or there is
-//! none. Memory does not grow: `memory.grow` by 0 gives the size, and by more it gives -1. It takes no memory. [`has_step`]
-//! says whether there is a step, and leaves memory and globals as they are.
+//! Each has a call here, which carries it out on a state ([`wb_state`]) and answers what it comes to. The contract of a
+//! call is the effect of its instruction: the state that is left, a trap, or no effect where no rule applies. Memory does
+//! not grow: `memory.grow` by 0 gives the size, and by more it gives -1. No call takes memory. [`can_set_global`] and
+//! [`can_store`] say whether there is an effect, and leave memory and globals as they are.
 //!
-//! `specs/Effects` says what an instruction does to a state, `specs/Follows` how that is a step of the definition.
+//! `specs/Effects` says what an instruction does to a state, and [`effects_are_steps`] that this is the step of the
+//! definition of execution (`wb_syntax`, `Execute`), as `specs/Follows` says it: for every module, every configuration
+//! that has the locals and the store of the state, and every code that follows.
 #![tactic(auto)]
 
 mod accesses;
+mod kinds;
+mod laws;
 mod numeric;
-mod operations;
 mod outcome;
-mod stepping;
 #[cfg(test)]
 mod tests;
 mod variables;
 
+pub use accesses::{can_store, grow, load, size, store};
+pub use laws::effects_are_steps;
+pub use numeric::{binary, drop_word, put, select, unary};
 pub use outcome::{Outcome, TrapKind};
-pub use stepping::{has_step, step};
+pub use variables::{can_set_global, global_get, global_set, local_get, local_set, local_tee};

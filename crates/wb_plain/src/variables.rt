@@ -8,6 +8,7 @@ use crate::outcome::Outcome;
 use wb_state::State;
 
 /// Puts the word of a local on top.
+#[inline(always)]
 pub fn local_get(state: &mut State, index: u32) -> Outcome
     ensures { Ends result (get state.old (slice_get state.old.locals.current index)) state.old state.new }
 {
@@ -18,6 +19,7 @@ pub fn local_get(state: &mut State, index: u32) -> Outcome
 }
 
 /// Sets a local to the topmost word.
+#[inline(always)]
 pub fn local_set(state: &mut State, index: u32) -> Outcome
     ensures { Ends result (local_set index state.old state.old.operands.above) state.old state.new }
 {
@@ -27,10 +29,11 @@ pub fn local_set(state: &mut State, index: u32) -> Outcome
     if !state.locals.set(index, word) {
         return Outcome::Stuck;
     }
-    Outcome::Goes
+    Outcome::Goes // the word is taken
 }
 
 /// Sets a local to the topmost word, which stays.
+#[inline(always)]
 pub fn local_tee(state: &mut State, index: u32) -> Outcome
     ensures { Ends result (local_tee index state.old state.old.operands.above) state.old state.new }
 {

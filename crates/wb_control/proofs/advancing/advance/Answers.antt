@@ -1,43 +1,23 @@
-use Rattle.std.proofs.Common.{◌+◌, refl, sym, ◌∙◌}
-use Rattle.wb_plain.specs.Follows.{pages_of}
-use Rattle.wb_control.specs.Steps.{controlled}
-use Rattle.wb_control.proofs.Advanced.{control_advances, straight_advances, has_instr, rooms_of, fits_on, size_of, straight_fits}
+use Rattle.std.proofs.Common.{◌+◌, ◌^◌, ◌<◌, ◌≤◌, length, arith, refl}
+use Rattle.std.proofs.lemmas.Option.{slice_get_read}
+use Rattle.wb_state.specs.Stack.{height_of}
+use Rattle.wb_control.proofs.Carried.{carried, left}
 use Rattle.wb_control.proofs.advancing.advance.Goals as goal
 
-pub returns-in_default-get-clause-advances : goal.returns-in_default-get-clause-advances
-returns-in_default-get-clause-advances c =
-    λ d nests leads s. absurd (has_instr c.args.m.now c.args.run.now d c.in-Some.func.now (sym c.in-Some.ensures.value) (sym c.in_default-get.ensures.value) s)
-
-pub returns-then-is_control-clause-advances : goal.returns-then-is_control-clause-advances
-returns-then-is_control-clause-advances c =
+pub returns : goal.returns
+returns c =
     let r = c.args.run.now in
-    λ d nests leads s. control_advances c.args.m.now c.args.jumps.now (pages_of r.state.memory) (r.place.at + 1) d c.control.result c.in-Some.func.now c.in-Some-get.instr.now r c.control.new.run refl nests leads
-    (sym c.in-Some.ensures.value) (sym c.in-Some-get.ensures.value) (sym c.is_control.ensures ∙ c.if-is_control.true) s c.control.ensures
-
-pub returns-else-is_control-clause-advances : goal.returns-else-is_control-clause-advances
-returns-else-is_control-clause-advances c =
-    let r = c.args.run.now in
-    let named = sym c.in-Some.ensures.value in
-    let there = sym c.in-Some-get.ensures.value in
-    λ d nests leads s. straight_advances c.args.m.now (r.place.at + 1) d c.straight.result c.in-Some.func.now c.in-Some-get.instr.now r c.straight.new.run refl
-    named there (sym c.is_control.ensures ∙ c.if-is_control.false) (c.requires.settled c.in-Some.func.now c.in-Some-get.instr.now named there) s c.straight.ensures.straightens
-
-pub returns-then-is_control-clause-room : goal.returns-then-is_control-clause-room
-returns-then-is_control-clause-room c =
-    let r = c.args.run.now in
-    rooms_of c.control.result (controlled c.args.m.now c.args.jumps.now (r.place.at + 1) r c.in-Some-get.instr.now) r c.control.new.run c.control.ensures
-
-pub returns-then-is_control-clause-fits : goal.returns-then-is_control-clause-fits
-returns-then-is_control-clause-fits c =
-    let r = c.args.run.now in
-    fits_on c.control.result (controlled c.args.m.now c.args.jumps.now (r.place.at + 1) r c.in-Some-get.instr.now) r c.control.new.run c.control.ensures
-
-pub returns-then-is_control-clause-size : goal.returns-then-is_control-clause-size
-returns-then-is_control-clause-size c =
-    let r = c.args.run.now in
-    size_of c.control.result (controlled c.args.m.now c.args.jumps.now (r.place.at + 1) r c.in-Some-get.instr.now) r c.control.new.run c.control.ensures
-
-pub returns-else-is_control-clause-fits : goal.returns-else-is_control-clause-fits
-returns-else-is_control-clause-fits c =
-    let r = c.args.run.now in
-    straight_fits c.straight.result c.in-Some-get.instr.now (r.place.at + 1) r c.straight.new.run c.straight.ensures.straightens
+    let b = c.args.body.now in
+    let i = c.index-body-run.result in
+    let next = r.place.at + 1 in
+    let there = slice_get_read b (length b) r.place.at i refl c.if-run-count.false c.index-body-run.is in
+    let within : height_of r.state.operands ≤ r.state.operands.most = omega (arith, c.height-words.ensures.height, c.height-words.ensures.within) in
+    let small : next < 2 ^ 64 = omega (arith, c.if-run-count.false) in
+    let l = left c.carry_out.result c.args.m.now c.args.jumps.now next i r c.carry_out.new.run refl small c.carry_out.ensures in
+    record {
+      advances = λ d nests leads s. carried c.args.m.now c.args.jumps.now d c.carry_out.result b i next r c.carry_out.new.run refl c.requires.fits within c.requires.body there nests leads s c.carry_out.ensures;
+      fits = l.fits;
+      stays = l.stays;
+      size = l.size;
+      room = l.room;
+    }

@@ -1,26 +1,43 @@
-use Rattle.std.proofs.Common.{◌+◌, refl, sym, ◌∙◌}
+use Rattle.std.proofs.Common.{◌+◌, ◌^◌, ◌<◌, arith, refl, sym, subst, ◌∙◌}
 use Rattle.wb_plain.specs.Follows.{pages_of}
-use Rattle.wb_control.proofs.Advanced.{has_control, has_straight, has_func, has_instr}
+use Rattle.wb_control.specs.Advances.{HasStep}
+use Rattle.wb_control.proofs.Advanced.{is_straight, has_straight, has_instr}
+use Rattle.wb_control.proofs.Carried.{left, has_made, no_control, spares}
 use Rattle.wb_control.proofs.advancing.has_step.Goals as goal
-
-pub returns-in_default-clause-step : goal.returns-in_default-clause-step
-returns-in_default-clause-step c =
-    λ d nests leads s. absurd (has_func c.args.m.now c.args.run.now d (sym c.in_default.ensures.value) s)
 
 pub returns-in_default-get-clause-step : goal.returns-in_default-get-clause-step
 returns-in_default-get-clause-step c =
     λ d nests leads s. absurd (has_instr c.args.m.now c.args.run.now d c.in-Some.func.now (sym c.in-Some.ensures.value) (sym c.in_default-get.ensures.value) s)
 
-pub returns-then-is_control-clause-step : goal.returns-then-is_control-clause-step
-returns-then-is_control-clause-step c =
+pub returns-then-writes_store-clause-step : goal.returns-then-writes_store-clause-step
+returns-then-writes_store-clause-step c =
+    let m = c.args.m.now in
     let r = c.args.run.now in
-    λ d nests leads s. has_control c.args.m.now c.args.jumps.now (pages_of r.state.memory) (r.place.at + 1) d c.in-Some.func.now c.in-Some-get.instr.now r c.has_control_step.result refl nests leads
-    (sym c.in-Some.ensures.value) (sym c.in-Some-get.ensures.value) (sym c.is_control.ensures ∙ c.if-is_control.true) s c.has_control_step.ensures.step
-
-pub returns-else-is_control-clause-step : goal.returns-else-is_control-clause-step
-returns-else-is_control-clause-step c =
-    let r = c.args.run.now in
+    let f = c.in-Some.func.now in
+    let i = c.in-Some-get.instr.now in
     let named = sym c.in-Some.ensures.value in
     let there = sym c.in-Some-get.ensures.value in
-    λ d nests leads s. has_straight c.args.m.now d c.in-Some.func.now c.in-Some-get.instr.now r c.has_step.result
-    named there (sym c.is_control.ensures ∙ c.if-is_control.false) (c.requires.settled c.in-Some.func.now c.in-Some-get.instr.now named there) s (λ e rest. c.has_step.ensures.step c.args.m.now e rest)
+    let straight = no_control i (sym c.writes_store.ensures ∙ c.if-writes_store.true) in
+    λ d nests leads s. has_straight m d f i r c.can_write.result named there straight (c.requires.settled f i named there) s
+    (λ e rest. c.can_write.ensures.effect ∙ sym (c.effects_are_steps.ensures.answer m e rest i r.state (is_straight i straight)))
+
+pub returns-else-writes_store : goal.returns-else-writes_store
+returns-else-writes_store c =
+    let m = c.args.m.now in
+    let js = c.args.jumps.now in
+    let r = c.args.run.now in
+    let new = c.carry_out.new.run in
+    let f = c.in-Some.func.now in
+    let i = c.in-Some-get.instr.now in
+    let next = r.place.at + 1 in
+    let named = sym c.in-Some.ensures.value in
+    let there = sym c.in-Some-get.ensures.value in
+    let counts = c.requires.settled f i named there in
+    let small : next < 2 ^ 64 = omega arith in
+    record {
+      step = λ d nests leads s.
+          subst (HasStep m (pages_of r.state.memory) d) (sym c.is_made.ensures)
+          (has_made m js d c.carry_out.result f.body i next r new refl (f, named, refl) there counts nests leads s c.carry_out.ensures);
+      store = spares c.carry_out.result m js next i r new counts (sym c.writes_store.ensures ∙ c.if-writes_store.false) c.carry_out.ensures;
+      room = (left c.carry_out.result m js next i r new refl small c.carry_out.ensures).room;
+    }

@@ -1,37 +1,85 @@
-use Rattle.std.proofs.Common.{arith, ◌-◌, ◌≡◌, ◌∙◌}
-use Rattle.wb_machine.proofs.Steps.{went_on, ended_on, ended_at}
+use Rattle.std.proofs.Common.{◌≡◌, ◌∙◌, arith}
+use Rattle.wb_plain.specs.Follows.{store_of}
+use Rattle.wb_control.specs.Changes.{SameRooms}
+use Rattle.wb_control.specs.declared.run.Run.{Run}
+use Rattle.wb_control.proofs.Advanced.{has_func}
+use Rattle.wb_control.proofs.Constants.{same_body}
+use Rattle.wb_machine.proofs.Steps.{settled_on, went_on, closed_on, ended_at}
 use Rattle.wb_machine.proofs.calling.steps.Goals as goal
 
-pub returns-in-Some-clause-ends : goal.returns-in-Some-clause-ends
-returns-in-Some-clause-ends c =
-    let first = c.args.run.now in
-    let r = c.loop-made.run in
-    let v = c.loop-made.invariant in
-    λ d nests leads s.
-    let g = v.goes d nests leads s in
-    ended_on c.args.m.now first r c.step.new.run c.args.limit c.loop-made._made d c.in-Some.end c.loop-made-test.true v.size v.room g (c.in-Some.ensures.step g.config nests leads g.stands)
+-- there is room for as much as at first
+same_rooms : (first r new : Run) → SameRooms r new → SameRooms first r → SameRooms first new
+same_rooms first r new k v = ((k.0.0 ∙ v.0.0, k.0.1 ∙ v.0.1), k.1 ∙ v.1, k.2 ∙ v.2)
 
-pub loop-made-preserved : goal.loop-made-preserved
-loop-made-preserved c =
+pub loop-left-preserved-in-Settles : goal.loop-left-preserved-in-Settles
+loop-left-preserved-in-Settles c =
+    let m = c.args.m.now in
     let first = c.args.run.now in
-    let r = c.loop-made.run in
-    let v = c.loop-made.invariant in
-    let k = c.step.ensures.room in
+    let r = c.loop-left.run in
+    let new = c.advance.new.run in
+    let v = c.loop-left.invariant in
     record {
-      goes = λ d nests leads s.
-          let g = v.goes d nests leads s in
-          went_on c.args.m.now first r c.step.new.run c.args.limit c.loop-made._made d c.loop-made-test.true v.size v.room g (c.in_default.ensures.step g.config nests leads g.stands);
-      fits = c.in_default.ensures.fits;
-      size = c.step.ensures.size ∙ v.size;
-      room = ((k.0.0 ∙ v.room.0.0, k.0.1 ∙ v.room.0.1), k.1 ∙ v.room.1, k.2 ∙ v.room.2);
+      goes = λ d nests leads s. let g = v.goes d nests leads s in settled_on m first r new c.args.limit c.loop-left.left d g (c.in-Settles.ensures.advances g.config nests leads g.stands);
+      fits = c.in-Settles.ensures.fits;
+      body = same_body m r new c.loop-left.body.now c.in-Settles.ensures.stays.0 v.body;
+      size = c.advance.ensures.size ∙ v.size;
+      room = same_rooms first r new c.advance.ensures.room v.room;
     }
+
+pub loop-left-preserved-in-Goes : goal.loop-left-preserved-in-Goes
+loop-left-preserved-in-Goes c =
+    let m = c.args.m.now in
+    let first = c.args.run.now in
+    let r = c.loop-left.run in
+    let new = c.advance.new.run in
+    let v = c.loop-left.invariant in
+    record {
+      goes = λ d nests leads s. let g = v.goes d nests leads s in went_on m first r new c.args.limit c.loop-left.left d c.loop-left-test.true v.size v.room g (c.in-Goes.ensures.advances g.config nests leads g.stands);
+      fits = c.in-Goes.ensures.fits;
+      body = same_body m r new c.loop-left.body.now c.in-Goes.ensures.stays v.body;
+      size = c.advance.ensures.size ∙ v.size;
+      room = same_rooms first r new c.advance.ensures.room v.room;
+    }
+
+pub loop-left-preserved : goal.loop-left-preserved
+loop-left-preserved c =
+    let m = c.args.m.now in
+    let first = c.args.run.now in
+    let r = c.loop-left.run in
+    let new = c.advance.new.run in
+    let v = c.loop-left.invariant in
+    record {
+      goes = λ d nests leads s. let g = v.goes d nests leads s in went_on m first r new c.args.limit c.loop-left.left d c.loop-left-test.true v.size v.room g (c.in-Moves.ensures.advances g.config nests leads g.stands);
+      fits = c.in-Moves.ensures.fits;
+      body = c.in-Some-body_of.ensures;
+      size = c.advance.ensures.size ∙ v.size;
+      room = same_rooms first r new c.advance.ensures.room v.room;
+    }
+
+pub returns-in_default-body_of-clause-ends : goal.returns-in_default-body_of-clause-ends
+returns-in_default-body_of-clause-ends c =
+    let m = c.args.m.now in
+    let v = c.loop-left.invariant in
+    λ d nests leads h.
+    let g = v.goes d nests leads h in
+    let s = c.in-Moves.ensures.advances g.config nests leads g.stands in
+    absurd (has_func m c.advance.new.run s.0 c.in_default-body_of.ensures s.1)
+
+pub returns-in_default-advance-clause-ends : goal.returns-in_default-advance-clause-ends
+returns-in_default-advance-clause-ends c =
+    let m = c.args.m.now in
+    let v = c.loop-left.invariant in
+    let new = c.advance.new.run in
+    λ d nests leads h.
+    let g = v.goes d nests leads h in
+    closed_on m c.args.run.now c.loop-left.run new c.args.limit c.loop-left.left d c.advance.result c.end_of.result c.loop-left-test.true v.size v.room g
+    c.in_default-advance.not-Settles c.in_default-advance.not-Goes c.in_default-advance.not-Moves (c.advance.ensures.advances g.config nests leads g.stands) (c.end_of.ensures (store_of new.state))
 
 pub returns-clause-ends : goal.returns-clause-ends
 returns-clause-ends c =
-    let first = c.args.run.now in
-    let r = c.loop-made.run in
-    let v = c.loop-made.invariant in
-    let none : c.args.limit - c.loop-made._made ≡ 0 = omega (arith, c.loop-made-test.false) in
-    λ d nests leads s.
-    let g = v.goes d nests leads s in
-    ended_at c.args.m.now first r c.stop.new.run c.args.limit (c.args.limit - c.loop-made._made) d c.stop.result none v.size v.room g (c.stop.ensures.ends g.config nests leads g.stands)
+    let m = c.args.m.now in
+    let v = c.loop-left.invariant in
+    let none : c.loop-left.left ≡ 0 = omega (arith, c.loop-left-test.false) in
+    λ d nests leads h.
+    let g = v.goes d nests leads h in
+    ended_at m c.args.run.now c.loop-left.run c.stop.new.run c.args.limit c.loop-left.left d c.stop.result none v.size v.room g (c.stop.ensures.ends g.config nests leads g.stands)

@@ -1,20 +1,13 @@
-//! Which types operations and accesses take and give, by the table of instructions.
+//! What loads and stores do, by the table of instructions.
 
 ghost use Rattle.std.specs.Prelude.{◌≡◌, ◌*◌, ◌≤◌, IfSome};
 ghost use Rattle.wb_syntax.specs.Numbers.{bits_of};
 ghost use Rattle.wb_state.specs.Bytes.{bytes_in};
 ghost use Rattle.wb_syntax.specs.Table.{row_at};
-ghost use Rattle.wb_plain.specs.Rows.{unary_types, binary_types, load_types, store_types, loading, storing};
+ghost use Rattle.wb_plain.specs.Rows.{load_types, store_types, loading, storing};
 
 use wb_state::Width;
 use wb_syntax::NumType;
-
-/// The type of the operands of an operation, and that of its result.
-#[derive(Clone, Copy, Debug, PartialEq, Eq)]
-pub struct Operation {
-    pub takes: NumType,
-    pub gives: NumType,
-}
 
 /// A load: the type of the word, how many bytes are read, and whether they are signed.
 #[derive(Clone, Copy, Debug, PartialEq, Eq)]
@@ -31,42 +24,7 @@ pub struct StoreKind {
     pub width: Width,
 }
 
-fn types(takes: NumType, gives: NumType) -> Option<Operation>
-    ensures { result ≡ Some (record { takes = takes; gives = gives }) }
-{
-    Some(Operation { takes, gives })
-}
-
-/// The types of an operation with one operand, by its opcode.
-#[tactic(auto, unfolding(wb_syntax::specs::Table::row_at))]
-pub fn unary_types(op: u8) -> Option<Operation>
-    ensures { result ≡ unary_types (row_at op) }
-{
-    match op {
-        0x45 => types(NumType::I32, NumType::I32),
-        0x50 => types(NumType::I64, NumType::I32),
-        0x67..=0x69 => types(NumType::I32, NumType::I32),
-        0x79..=0x7B => types(NumType::I64, NumType::I64),
-        0xA7 => types(NumType::I64, NumType::I32),
-        0xAC..=0xAD => types(NumType::I32, NumType::I64),
-        _ => None,
-    }
-}
-
-/// The types of an operation with two operands, by its opcode.
-#[tactic(auto, unfolding(wb_syntax::specs::Table::row_at))]
-pub fn binary_types(op: u8) -> Option<Operation>
-    ensures { result ≡ binary_types (row_at op) }
-{
-    match op {
-        0x46..=0x4F => types(NumType::I32, NumType::I32),
-        0x51..=0x5A => types(NumType::I64, NumType::I32),
-        0x6A..=0x78 => types(NumType::I32, NumType::I32),
-        0x7C..=0x8A => types(NumType::I64, NumType::I64),
-        _ => None,
-    }
-}
-
+#[inline(always)]
 fn load_of(gives: NumType, width: Width, signed: bool) -> Option<LoadKind>
     ensures { result ≡ Some (record { gives = gives; width = width; signed = signed }) }
 {
@@ -78,6 +36,7 @@ fn load_of(gives: NumType, width: Width, signed: bool) -> Option<LoadKind>
 }
 
 /// What a load does, by its opcode.
+#[inline(always)]
 #[tactic(auto, unfolding(wb_syntax::specs::Table::row_at))]
 pub fn load_kind(op: u8) -> Option<LoadKind>
     ensures row { loading result ≡ load_types (row_at op) }
@@ -100,6 +59,7 @@ pub fn load_kind(op: u8) -> Option<LoadKind>
     }
 }
 
+#[inline(always)]
 fn store_of(takes: NumType, width: Width) -> Option<StoreKind>
     ensures { result ≡ Some (record { takes = takes; width = width }) }
 {
@@ -107,6 +67,7 @@ fn store_of(takes: NumType, width: Width) -> Option<StoreKind>
 }
 
 /// What a store does, by its opcode.
+#[inline(always)]
 #[tactic(auto, unfolding(wb_syntax::specs::Table::row_at))]
 pub fn store_kind(op: u8) -> Option<StoreKind>
     ensures { storing result ≡ store_types (row_at op) }
