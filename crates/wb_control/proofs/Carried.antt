@@ -13,7 +13,7 @@ use Rattle.wb_code.specs.declared.leading.Jump.{Jump}
 use Rattle.wb_control.specs.Changes.{Run, Fits, Comes, SameRooms, at_place, with_stack}
 use Rattle.wb_control.specs.Steps.{controlled}
 use Rattle.wb_control.specs.Stands.{HasBody, AllNested, AllLead, Stands}
-use Rattle.wb_control.specs.Advances.{is_control, is_constant, constant_word, Puts, Straightens, Carries, Advances, FitsOn, Stays, is_made, HasStep}
+use Rattle.wb_control.specs.Advances.{is_control, is_constant, constant_word, Puts, Straightens, Carries, Advances, FitsOn, Stays, Spares, is_made, HasStep}
 use Rattle.wb_control.specs.declared.run.Flow.{Flow}
 use Rattle.wb_control.specs.declared.run.Flow.TheVariants.{Settles as FlowSettles, Goes as FlowGoes, Moves as FlowMoves, Full as FlowFull, Finishes as FlowFinishes, Traps as FlowTraps, Stuck as FlowStuck}
 use Rattle.wb_control.proofs.Advanced.{control_moves, straight_moves, has_control, has_straight, made}
@@ -70,12 +70,13 @@ carried m js c flow b i next old new e f l h there nests leads s p = carried_as 
 pub record Left (flow : Flow) (old new : Run) : Type 0 where
   pub fits : FitsOn flow new
   pub stays : Stays flow old new
+  pub store : Spares flow old new
   pub size : length_of new.state.memory ≡ length_of old.state.memory
   pub room : SameRooms old new
 
 put_left : (flow : Flow) (w : Word) (next : ℕ) (old new : Run) → next ≡ old.place.at + 1 → next < 2 ^ 64 → Puts flow w next old new → Left flow old new
-put_left FlowSettles w next old new e n p = subst (λ r. Fits r → Left FlowSettles old r) (sym p.0) (λ f. record { fits = f; stays = (refl, e, n); size = refl; room = ((refl, refl), refl, refl) }) p.1
-put_left FlowFull w next old new e n p = record { fits = tt; stays = tt; size = ap length_of p.1.0; room = p.2 }
+put_left FlowSettles w next old new e n p = subst (λ r. Fits r → Left FlowSettles old r) (sym p.0) (λ f. record { fits = f; stays = (refl, e, n); store = (refl, refl); size = refl; room = ((refl, refl), refl, refl) }) p.1
+put_left FlowFull w next old new e n p = record { fits = tt; stays = tt; store = p.1; size = ap length_of p.1.0; room = p.2 }
 put_left FlowGoes w next old new e n p = absurd p
 put_left FlowMoves w next old new e n p = absurd p
 put_left FlowFinishes w next old new e n p = absurd p
@@ -84,12 +85,12 @@ put_left FlowStuck w next old new e n p = absurd p
 
 control_left : (flow : Flow) (m : Module) (js : List (List Jump)) (next : ℕ) (i : Instr) (old new : Run) → Comes flow (controlled m js next old i) old new → Left flow old new
 control_left FlowSettles m js next i old new h = absurd h
-control_left FlowGoes m js next i old new h = record { fits = h.1; stays = h.4; size = ap length_of h.2.0; room = h.3 }
-control_left FlowMoves m js next i old new h = record { fits = h.1; stays = tt; size = ap length_of h.2.0; room = h.3 }
-control_left FlowFull m js next i old new h = record { fits = tt; stays = tt; size = ap length_of h.1.0; room = h.2 }
-control_left FlowFinishes m js next i old new h = record { fits = tt; stays = tt; size = ap length_of h.1.0; room = h.2 }
+control_left FlowGoes m js next i old new h = record { fits = h.1; stays = h.4; store = tt; size = ap length_of h.2.0; room = h.3 }
+control_left FlowMoves m js next i old new h = record { fits = h.1; stays = tt; store = tt; size = ap length_of h.2.0; room = h.3 }
+control_left FlowFull m js next i old new h = record { fits = tt; stays = tt; store = h.1; size = ap length_of h.1.0; room = h.2 }
+control_left FlowFinishes m js next i old new h = record { fits = tt; stays = tt; store = h.1; size = ap length_of h.1.0; room = h.2 }
 control_left (FlowTraps k) m js next i old new h = absurd h
-control_left FlowStuck m js next i old new h = record { fits = tt; stays = tt; size = ap length_of h.1.0; room = h.2 }
+control_left FlowStuck m js next i old new h = record { fits = tt; stays = tt; store = h.1; size = ap length_of h.1.0; room = h.2 }
 
 straight_left : (flow : Flow) (i : Instr) (next : ℕ) (old new : Run) → Straightens flow i next old new → Left flow old new
 straight_left FlowSettles i next old new h = absurd h
@@ -98,14 +99,15 @@ straight_left FlowGoes i next old new h =
     record {
       fits = h.1;
       stays = ap (λ (r : Run). r.place.func) p;
+      store = tt;
       size = h.2.size;
       room = ((h.2.room, h.2.local_room), ap (λ (r : Run). r.labels.room) p, ap (λ (r : Run). r.callers.room) p);
     }
 straight_left FlowMoves i next old new h = absurd h
-straight_left FlowFull i next old new h = record { fits = tt; stays = tt; size = ap length_of h.1.0; room = h.2 }
+straight_left FlowFull i next old new h = record { fits = tt; stays = tt; store = h.1; size = ap length_of h.1.0; room = h.2 }
 straight_left FlowFinishes i next old new h = absurd h
-straight_left (FlowTraps k) i next old new h = record { fits = tt; stays = tt; size = ap length_of h.1.0; room = h.2 }
-straight_left FlowStuck i next old new h = record { fits = tt; stays = tt; size = ap length_of h.1.0; room = h.2 }
+straight_left (FlowTraps k) i next old new h = record { fits = tt; stays = tt; store = h.1; size = ap length_of h.1.0; room = h.2 }
+straight_left FlowStuck i next old new h = record { fits = tt; stays = tt; store = h.1; size = ap length_of h.1.0; room = h.2 }
 
 left_as : (w : Option Word) (control : Bool) (flow : Flow) (m : Module) (js : List (List Jump)) (next : ℕ) (i : Instr) (old new : Run) → next ≡ old.place.at + 1 → next < 2 ^ 64 → CarriesAs w control flow m js next i old new → Left flow old new
 left_as (Some w) control flow m js next i old new e n p = put_left flow w next old new e n p

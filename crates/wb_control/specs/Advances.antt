@@ -131,6 +131,12 @@ FitsOn FlowGoes r = Fits r
 FitsOn FlowMoves r = Fits r
 FitsOn _ r = Unit {0}
 
+-- memory and globals are as before where no step is made that goes on
+abbrev pub Spares : Flow → (old new : Run) → Type 0
+Spares FlowGoes old new = Unit {0}
+Spares FlowMoves old new = Unit {0}
+Spares _ old new = SameStore old.state new.state
+
 -- where a run goes on that stays in its frame
 abbrev pub Stays : Flow → (old new : Run) → Type 0
 Stays FlowSettles old new = (new.place.func ≡ old.place.func) × (new.place.at ≡ old.place.at + 1) × (new.place.at < 2 ^ 64)

@@ -6,7 +6,7 @@ ghost use Rattle.wb_plain.specs.Effects.{SameStore, SameRoom, effect, has_effect
 ghost use Rattle.wb_plain.specs.Follows.{pages_of, length_of};
 ghost use Rattle.wb_control.specs.Changes.{Fits, SameRooms};
 ghost use Rattle.wb_control.specs.Stands.{HasBody, AllNested, AllLead, Stands};
-ghost use Rattle.wb_control.specs.Advances.{IsSettled, Advances, FitsOn, Stays, HasStep, is_made};
+ghost use Rattle.wb_control.specs.Advances.{IsSettled, Advances, FitsOn, Stays, Spares, HasStep, is_made};
 
 use crate::carrying::carry_out;
 use crate::run::{Flow, Run};
@@ -25,6 +25,7 @@ pub fn advance(run: &mut Run, m: &Module, jumps: &[Items<Jump>], body: &[Instr])
     ensures advances { (c : Config) → AllNested m.now → AllLead m.now jumps.now → Stands m.now run.old c → Advances m.now c result run.old run.new }
     ensures fits { FitsOn result run.new }
     ensures stays { Stays result run.old run.new }
+    ensures store { Spares result run.old run.new }
     ensures size { length_of run.new.state.memory ≡ length_of run.old.state.memory }
     ensures room { SameRooms run.old run.new }
 {

@@ -18,6 +18,7 @@ returns c =
       advances = λ d nests leads s. carried c.args.m.now c.args.jumps.now d c.carry_out.result b i next r c.carry_out.new.run refl c.requires.fits within c.requires.body there nests leads s c.carry_out.ensures;
       fits = l.fits;
       stays = l.stays;
+      store = l.store;
       size = l.size;
       room = l.room;
     }
