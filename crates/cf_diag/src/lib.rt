@@ -5,8 +5,6 @@ mod laws;
 mod modules;
 mod places;
 mod refusal;
-#[cfg(test)]
-mod tests;
 mod text;
 
 pub use laws::lines_differ;

@@ -10,8 +10,6 @@ mod memory;
 mod reading;
 mod scoping;
 mod stepping;
-#[cfg(test)]
-mod tests;
 
 pub use answers::{Budget, EvalEnd, Evaluated, Written};
 pub use calling::{evaluate, normalise};

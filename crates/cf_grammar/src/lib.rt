@@ -17,8 +17,6 @@ mod phrases;
 mod productions;
 mod stacking;
 mod terms;
-#[cfg(test)]
-mod tests;
 mod turning;
 mod walking;
 

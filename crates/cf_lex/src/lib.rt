@@ -13,8 +13,6 @@ mod list;
 mod marks;
 mod naming;
 mod piece;
-#[cfg(test)]
-mod tests;
 mod token;
 
 pub use ends::LexEnd;

@@ -3,8 +3,6 @@
 
 mod declarations;
 mod programs;
-#[cfg(test)]
-mod tests;
 
 pub use declarations::{Ctor, DataDecl};
 pub use programs::{CoreDecl, CoreProgram};

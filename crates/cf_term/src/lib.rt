@@ -12,8 +12,6 @@ mod parts;
 mod rebuilding;
 mod shifting;
 mod substituting;
-#[cfg(test)]
-mod tests;
 
 pub use comparing::same;
 pub use copying::copy;

@@ -5,8 +5,6 @@ mod classes;
 mod decls;
 mod forms;
 mod heads;
-#[cfg(test)]
-mod tests;
 
 pub use classes::{is_explicit, is_hole_free};
 pub use decls::{CtorTree, Decl, Program};

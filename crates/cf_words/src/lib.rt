@@ -24,8 +24,6 @@ mod grammar;
 mod laws;
 mod numbers;
 mod reading;
-#[cfg(test)]
-mod tests;
 
 pub use command::{Command, WordsEnd};
 pub use laws::{line_or_usage, one_command, one_usage};

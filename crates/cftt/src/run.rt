@@ -102,6 +102,3 @@ pub fn status(end: &Result<Report, Refusal>) -> u8
         Err(_) => 1,
     }
 }
-
-#[cfg(test)]
-mod tests;

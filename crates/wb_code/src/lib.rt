@@ -13,7 +13,5 @@
 
 mod leading;
 mod pile;
-#[cfg(test)]
-mod tests;
 
 pub use leading::{Jump, NoMemory, jumps};

@@ -33,6 +33,3 @@ mod vectors;
 pub use decoding::decode;
 pub use ends::{DecodeEnd, What};
 pub use laws::{answers_spelled, refuses_no_spelled};
-
-#[cfg(test)]
-mod tests;

@@ -10,8 +10,6 @@ mod numbers;
 mod parts;
 mod sections;
 mod spelling;
-#[cfg(test)]
-mod tests;
 
 pub use cf_base::NoMemory;
 pub use encoding::encode;

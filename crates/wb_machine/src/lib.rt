@@ -14,8 +14,6 @@ mod ends;
 mod entry;
 mod machine;
 mod opening;
-#[cfg(test)]
-mod tests;
 
 pub use ends::{MachineEnd, OpenEnd};
 pub use machine::{MOST_PAGES, Machine};

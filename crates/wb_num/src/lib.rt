@@ -5,8 +5,6 @@
 mod i32_operations;
 mod i64_operations;
 mod operations;
-#[cfg(test)]
-mod tests;
 mod trap;
 
 pub use operations::{binary, unary};

@@ -16,8 +16,6 @@ mod kinds;
 mod laws;
 mod numeric;
 mod outcome;
-#[cfg(test)]
-mod tests;
 mod variables;
 
 pub use accesses::{can_store, grow, load, size, store};

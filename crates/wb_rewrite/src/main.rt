@@ -106,6 +106,3 @@ fn times(rt: &HostRuntime, bytes: &[u8]) -> io::Result<bool> {
     println!(rt; "read {read} ns, validated {validated} ns, read and written {written} ns")?;
     Ok(true)
 }
-
-#[cfg(test)]
-mod tests;

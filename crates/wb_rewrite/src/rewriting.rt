@@ -25,6 +25,3 @@ pub fn rewritten(alloc: Global, bytes: &[u8]) -> Result<Vec<u8>, DecodeEnd>
         Err(_) => Err(DecodeEnd::NoMemory),
     }
 }
-
-#[cfg(test)]
-mod tests;

@@ -19,8 +19,6 @@ mod locals;
 mod memory;
 mod operands;
 mod state;
-#[cfg(test)]
-mod tests;
 mod words;
 
 pub use globals::Globals;

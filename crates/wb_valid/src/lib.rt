@@ -47,5 +47,3 @@ pub use valid::{ValidModule, validate};
 
 #[cfg(test)]
 mod samples;
-#[cfg(test)]
-mod tests;
