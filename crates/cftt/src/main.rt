@@ -7,8 +7,10 @@ mod top;
 mod writing;
 
 use cf_base::{StdSink, StdSource};
+use cf_diag::Refusal;
 use std::process::ExitCode;
 use std::{env, io};
+use telling::told;
 
 // The words after the program's name.
 fn words(rt: &HostRuntime) -> io::Result<Vec<String>> {
@@ -20,12 +22,13 @@ fn words(rt: &HostRuntime) -> io::Result<Vec<String>> {
 }
 
 fn main(rt: HostRuntime) -> ExitCode {
+    let mut err = StdSink::new(rt.stderr());
     let Ok(words) = words(&rt) else {
-        return ExitCode::from(1);
+        let refusal = told(rt.alloc(), &mut err, Refusal::NoMemory);
+        return ExitCode::from(run::status(&Err(refusal)));
     };
     let mut input = StdSource::new(rt.stdin());
     let mut out = StdSink::new(rt.stdout());
-    let mut err = StdSink::new(rt.stderr());
     let end = run::cftt(rt.alloc(), &words, &mut input, &mut out, &mut err);
     ExitCode::from(run::status(&end))
 }

@@ -1,7 +1,9 @@
 // The top call.
-ghost use Rattle.std.specs.Prelude.{◌≡◌, IfOk, IfErr, OnOk, map};
+ghost use Rattle.std.specs.Prelude.{◌≡◌, map};
 ghost use Rattle.std.specs.String.{string_bytes};
-ghost use Rattle.cftt.specs.Answers.{IsDone, Caused, Leaves, OnUsage, IsTold, most_bytes, status_of};
+ghost use Rattle.cftt.specs.Answers.{IsAnswered, status_of};
+ghost use Rattle.cftt.specs.Commands.{most_bytes};
+ghost use Rattle.cftt.specs.Correct.{Correct};
 
 use crate::telling::told;
 use crate::top::Report;
@@ -34,16 +36,9 @@ fn answered<S: Source, O: Sink>(
     input: &mut S,
     out: &mut O,
 ) -> Result<Report, Refusal>
-    ensures done { IfOk result (λ report. IsDone (map (λ w. string_bytes w) words.now)
+    ensures { IsAnswered (map (λ w. string_bytes w) words.now) input.old input.new
         record { left = S.left input.old; read_faults = S.faults input.old; taken = O.taken out.old; write_faults = O.faults out.old }
-        record { left = S.left input.new; read_faults = S.faults input.new; taken = O.taken out.new; write_faults = O.faults out.new } report) }
-    ensures cause { IfErr result (λ refusal. Caused (map (λ w. string_bytes w) words.now)
-        record { left = S.left input.old; read_faults = S.faults input.old; taken = O.taken out.old; write_faults = O.faults out.old }
-        record { left = S.left input.new; read_faults = S.faults input.new; taken = O.taken out.new; write_faults = O.faults out.new } refusal) }
-    ensures leaves { IfErr result (λ refusal. Leaves (map (λ w. string_bytes w) words.now)
-        record { left = S.left input.old; read_faults = S.faults input.old; taken = O.taken out.old; write_faults = O.faults out.old }
-        record { left = S.left input.new; read_faults = S.faults input.new; taken = O.taken out.new; write_faults = O.faults out.new } refusal) }
-    ensures untouched { IfErr result (λ refusal. OnUsage refusal (input.new ≡ input.old)) }
+        record { left = S.left input.new; read_faults = S.faults input.new; taken = O.taken out.new; write_faults = O.faults out.new } result }
 {
     let command = match read_words(alloc, words) {
         Ok(command) => command,
@@ -71,20 +66,17 @@ pub fn cftt<S: Source, O: Sink, E: Sink>(
     out: &mut O,
     err: &mut E,
 ) -> Result<Report, Refusal>
-    ensures done { IfOk result (λ report. IsDone (map (λ w. string_bytes w) words.now)
-        record { left = S.left input.old; read_faults = S.faults input.old; taken = O.taken out.old; write_faults = O.faults out.old }
-        record { left = S.left input.new; read_faults = S.faults input.new; taken = O.taken out.new; write_faults = O.faults out.new } report) }
-    ensures cause { IfErr result (λ refusal. Caused (map (λ w. string_bytes w) words.now)
-        record { left = S.left input.old; read_faults = S.faults input.old; taken = O.taken out.old; write_faults = O.faults out.old }
-        record { left = S.left input.new; read_faults = S.faults input.new; taken = O.taken out.new; write_faults = O.faults out.new } refusal) }
-    ensures leaves { IfErr result (λ refusal. Leaves (map (λ w. string_bytes w) words.now)
-        record { left = S.left input.old; read_faults = S.faults input.old; taken = O.taken out.old; write_faults = O.faults out.old }
-        record { left = S.left input.new; read_faults = S.faults input.new; taken = O.taken out.new; write_faults = O.faults out.new } refusal) }
-    ensures untouched { IfErr result (λ refusal. OnUsage refusal (input.new ≡ input.old)) }
-    ensures told { IfErr result (λ refusal. IsTold
-        record { taken = E.taken err.old; faults = E.faults err.old }
-        record { taken = E.taken err.new; faults = E.faults err.new } refusal) }
-    ensures silent { OnOk result (E.taken err.new ≡ E.taken err.old) }
+    ensures { Correct (map (λ w. string_bytes w) words.now)
+        record {
+          input = input.old;
+          ends = record { left = S.left input.old; read_faults = S.faults input.old; taken = O.taken out.old; write_faults = O.faults out.old };
+          errors = record { taken = E.taken err.old; faults = E.faults err.old };
+        }
+        record {
+          input = input.new;
+          ends = record { left = S.left input.new; read_faults = S.faults input.new; taken = O.taken out.new; write_faults = O.faults out.new };
+          errors = record { taken = E.taken err.new; faults = E.faults err.new };
+        } result }
 {
     match answered(alloc, words, input, out) {
         Ok(report) => Ok(report),
@@ -102,3 +94,6 @@ pub fn status(end: &Result<Report, Refusal>) -> u8
         Err(_) => 1,
     }
 }
+
+#[cfg(test)]
+mod tests;

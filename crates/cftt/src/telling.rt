@@ -1,7 +1,8 @@
 // Refusals on the error stream.
 ghost use Rattle.std.specs.Prelude.{◌≡◌, ◌≢◌, ◌⊎◌};
 ghost use Rattle.cf_diag.specs.declared.refusal.Refusal.TheVariants as refusals;
-ghost use Rattle.cftt.specs.Answers.{IsTold, IsWritten};
+ghost use Rattle.cftt.specs.Answers.{IsTold};
+ghost use Rattle.cftt.specs.Moments.{IsWritten};
 
 use cf_base::{Sink, write_all};
 use cf_diag::{Refusal, no_memory_text, refusal_text, write_fault_text};

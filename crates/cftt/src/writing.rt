@@ -3,7 +3,7 @@ ghost use Rattle.std.specs.Prelude.{◌≡◌, ◌≤◌, IfErr, IfOk, length};
 ghost use Rattle.cf_diag.specs.declared.refusal.Refusal.TheVariants as refusals;
 ghost use Rattle.cf_words.specs.Lines.{IsInRange};
 ghost use Rattle.cf_driver.specs.Ends.{line_text};
-ghost use Rattle.cftt.specs.Answers.{Refuses, Writes, most_bytes, ran, written};
+ghost use Rattle.cftt.specs.Commands.{Refuses, Writes, most_bytes, ran, written};
 
 use crate::top::Report;
 use cf_diag::Refusal;

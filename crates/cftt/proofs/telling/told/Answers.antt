@@ -1,5 +1,5 @@
 use Rattle.std.proofs.Common.{subst, refl, inr}
-use Rattle.cftt.specs.Answers.{IsWritten}
+use Rattle.cftt.specs.Moments.{IsWritten}
 use Rattle.cftt.proofs.telling.told.Goals as goal
 
 pub returns-in-WriteFault-clause-line : goal.returns-in-WriteFault-clause-line
