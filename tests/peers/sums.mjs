@@ -30,10 +30,14 @@ function expect(what, got, want) {
   }
 }
 
-// Examples: with `.expected` what `main` returns, with `.core` the printed form of the core, which is its own core.
+// Examples: with `.expected` what `main` returns, with `.core` the printed form of the core, which is its own core. The page on the language
+// has each program and each core, where long lines are broken.
+const inOneLine = (text) => text.replace(/\s+/g, " ").trim();
+const page = inOneLine(readFileSync(`${top}/docs/language.md`, "utf8"));
 for (const name of readdirSync(`${top}/examples`)) {
   const source = `${top}/examples/${name.replace(/[.]\w+$/, ".cftt")}`;
   const text = readFileSync(`${top}/examples/${name}`, "utf8");
+  if (!name.endsWith(".expected")) expect(`${name} in docs/language.md`, page.includes(inOneLine(text)), true);
   if (name.endsWith(".expected")) expect(name, run(build(readFileSync(source))), BigInt(text.trim()));
   if (name.endsWith(".core")) {
     expect(name, `${build(readFileSync(source), ["core"])}`, text);
