@@ -5,7 +5,7 @@ use sqlite_items::Items;
 use std::alloc::{AllocError, Global};
 use std::test::Fail;
 use wb_code::jumps;
-use wb_syntax::{Func, Instr};
+use wb_syntax::{Func, Instr, NumType};
 use wb_valid::{InvalidEnd, Part, validate};
 
 /// An instruction by a letter.
@@ -80,16 +80,39 @@ const UNSPELLED: [&str; 13] = [
 fn bodies_that_no_bytes_spell(rt: HostRuntime) -> Result<(), Fail> {
     let alloc = rt.alloc();
     for letters in UNSPELLED {
+        let body = letters_body(alloc, letters)?;
+        let count = jumps(alloc, body.as_slice()).ok().map(|found| found.len());
+        assert_eq!(rt; count, Some(letters.len()), "{letters}");
         let mut m = module(alloc, &SECTIONS, "i64.const 07 end")?;
         m.funcs.push(Func {
             ty: 1,
             locals: Items::new(alloc),
-            body: letters_body(alloc, letters)?,
+            body,
         })?;
         let answer = validate(alloc, m).err();
         assert_eq!(rt;
             answer,
             Some(InvalidEnd::Invalid(Part::Body(3))),
+            "{letters}"
+        );
+    }
+    Ok(())
+}
+
+#[test]
+fn initial_values_that_no_bytes_spell(rt: HostRuntime) -> Result<(), Fail> {
+    let alloc = rt.alloc();
+    for letters in UNSPELLED {
+        let mut m = module(alloc, &SECTIONS, "i64.const 07 end")?;
+        m.globals.push(wb_syntax::Global {
+            ty: NumType::I64,
+            mutable: false,
+            init: letters_body(alloc, letters)?,
+        })?;
+        let answer = validate(alloc, m).err();
+        assert_eq!(rt;
+            answer,
+            Some(InvalidEnd::Invalid(Part::GlobalInit(2))),
             "{letters}"
         );
     }

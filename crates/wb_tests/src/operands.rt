@@ -1,6 +1,6 @@
 //! Each instruction with operands, valid and with each operand, its result and its alignment wrong.
 
-use crate::samples::{SECTIONS, body, bytes, module_bytes};
+use crate::samples::{SECTIONS, body, module_bytes, push_words};
 use std::alloc::Global;
 use std::test::Fail;
 use wb_decode::decode;
@@ -12,65 +12,69 @@ const I64: u8 = 0x7E;
 
 const NONE: u8 = 0x40;
 
-/// Opcodes from the first to the last, with their operands from the lowest up and their result.
-const NUMERIC: [(u8, u8, &[u8], u8); 10] = [
-    (0x45, 0x45, &[I32], I32),
-    (0x46, 0x4F, &[I32, I32], I32),
-    (0x50, 0x50, &[I64], I32),
-    (0x51, 0x5A, &[I64, I64], I32),
-    (0x67, 0x69, &[I32], I32),
-    (0x6A, 0x78, &[I32, I32], I32),
-    (0x79, 0x7B, &[I64], I64),
-    (0x7C, 0x8A, &[I64, I64], I64),
-    (0xA7, 0xA7, &[I64], I32),
-    (0xAC, 0xAD, &[I32], I64),
-];
-
-/// Those of loads and stores, with the greatest alignment besides.
-const ACCESSES: [(u8, u8, &[u8], u8, u8); 14] = [
-    (0x28, 0x28, &[I32], I32, 2),
-    (0x29, 0x29, &[I32], I64, 3),
-    (0x2C, 0x2D, &[I32], I32, 0),
-    (0x2E, 0x2F, &[I32], I32, 1),
-    (0x30, 0x31, &[I32], I64, 0),
-    (0x32, 0x33, &[I32], I64, 1),
-    (0x34, 0x35, &[I32], I64, 2),
-    (0x36, 0x36, &[I32, I32], NONE, 2),
-    (0x37, 0x37, &[I32, I64], NONE, 3),
-    (0x3A, 0x3A, &[I32, I32], NONE, 0),
-    (0x3B, 0x3B, &[I32, I32], NONE, 1),
-    (0x3C, 0x3C, &[I32, I64], NONE, 0),
-    (0x3D, 0x3D, &[I32, I64], NONE, 1),
-    (0x3E, 0x3E, &[I32, I64], NONE, 2),
+/// Opcodes from the first to the last: operands from the lowest up, the result, and of an access the greatest alignment.
+const ROWS: [(u8, u8, &[u8], u8, Option<u8>); 24] = [
+    (0x45, 0x45, &[I32], I32, None),
+    (0x46, 0x4F, &[I32, I32], I32, None),
+    (0x50, 0x50, &[I64], I32, None),
+    (0x51, 0x5A, &[I64, I64], I32, None),
+    (0x67, 0x69, &[I32], I32, None),
+    (0x6A, 0x78, &[I32, I32], I32, None),
+    (0x79, 0x7B, &[I64], I64, None),
+    (0x7C, 0x8A, &[I64, I64], I64, None),
+    (0xA7, 0xA7, &[I64], I32, None),
+    (0xAC, 0xAD, &[I32], I64, None),
+    (0x28, 0x28, &[I32], I32, Some(2)),
+    (0x29, 0x29, &[I32], I64, Some(3)),
+    (0x2C, 0x2D, &[I32], I32, Some(0)),
+    (0x2E, 0x2F, &[I32], I32, Some(1)),
+    (0x30, 0x31, &[I32], I64, Some(0)),
+    (0x32, 0x33, &[I32], I64, Some(1)),
+    (0x34, 0x35, &[I32], I64, Some(2)),
+    (0x36, 0x36, &[I32, I32], NONE, Some(2)),
+    (0x37, 0x37, &[I32, I64], NONE, Some(3)),
+    (0x3A, 0x3A, &[I32, I32], NONE, Some(0)),
+    (0x3B, 0x3B, &[I32, I32], NONE, Some(1)),
+    (0x3C, 0x3C, &[I32, I64], NONE, Some(0)),
+    (0x3D, 0x3D, &[I32, I64], NONE, Some(1)),
+    (0x3E, 0x3E, &[I32, I64], NONE, Some(2)),
 ];
 
 fn other(ty: u8) -> u8 {
     if ty == I32 { I64 } else { I32 }
 }
 
-/// An instruction by its bytes, with the types of its operands and of its result.
+/// An instruction with the types of its operands and of its result.
 #[derive(Clone, Copy)]
 struct Typed<'a> {
     operands: &'a [u8],
-    instruction: &'a [u8],
+    opcode: u8,
+    align: Option<u8>,
     gives: u8,
 }
 
-// Whether a function is valid that puts such operands, does this, and puts the result in a local of its type.
-fn is_valid(alloc: Global, typed: Typed<'_>) -> Result<bool, Fail> {
+// The body that puts such operands, does this, and puts the result in a local of its type.
+fn main_of(alloc: Global, typed: Typed<'_>) -> Result<Vec<u8>, Fail> {
     let mut code = body(alloc, "")?;
     for ty in typed.operands {
-        code.push(if *ty == I32 { 0x41 } else { 0x42 })?;
-        code.push(0x00)?;
+        code.extend_from_slice(&[if *ty == I32 { 0x41 } else { 0x42 }, 0x00])?;
     }
-    code.extend_from_slice(typed.instruction)?;
+    code.push(typed.opcode)?;
+    if let Some(align) = typed.align {
+        code.extend_from_slice(&[align, 0x00])?;
+    }
     match typed.gives {
         I32 => code.extend_from_slice(&[0x21, 0x02])?,
         I64 => code.extend_from_slice(&[0x21, 0x03])?,
         _ => {}
     }
-    code.extend_from_slice(&bytes(alloc, "i64.const 00 end")?)?;
-    let module = decode(alloc, &module_bytes(alloc, &SECTIONS, &code)?)?;
+    push_words(alloc, &mut code, "i64.const 00 end")?;
+    Ok(code)
+}
+
+fn is_valid(alloc: Global, typed: Typed<'_>) -> Result<bool, Fail> {
+    let main = main_of(alloc, typed)?;
+    let module = decode(alloc, &module_bytes(alloc, &SECTIONS, &main)?)?;
     Ok(validate(alloc, module).is_ok())
 }
 
@@ -88,52 +92,35 @@ fn is_valid_with_others(alloc: Global, typed: Typed<'_>) -> Result<bool, Fail> {
     is_valid(alloc, Typed { operands, ..typed })
 }
 
-// Whether exactly this typing of it is found valid, among those that differ in one place.
-fn is_judged(alloc: Global, typed: Typed<'_>) -> Result<bool, Fail> {
-    if !is_valid(alloc, typed)? || is_valid_with_others(alloc, typed)? {
-        return Ok(false);
-    }
-    if typed.gives == NONE {
-        return Ok(true);
-    }
-    let gives = other(typed.gives);
-    Ok(!is_valid(alloc, Typed { gives, ..typed })?)
-}
-
-#[test]
-fn numeric_operands(rt: HostRuntime) -> Result<(), Fail> {
-    for (first, last, operands, gives) in NUMERIC {
-        for opcode in first..=last {
-            let instruction = &[opcode];
-            let typed = Typed {
-                operands,
-                instruction,
-                gives,
-            };
-            assert!(rt; is_judged(rt.alloc(), typed)?, "opcode {opcode}");
+// Whether it is valid with the other result, or with a greater alignment.
+fn is_valid_otherwise(alloc: Global, typed: Typed<'_>) -> Result<bool, Fail> {
+    if let Some(align) = typed.align {
+        let align = Some(align.saturating_add(1));
+        if is_valid(alloc, Typed { align, ..typed })? {
+            return Ok(true);
         }
     }
-    Ok(())
+    if typed.gives == NONE {
+        return Ok(false);
+    }
+    let gives = other(typed.gives);
+    is_valid(alloc, Typed { gives, ..typed })
 }
 
 #[test]
-fn accesses(rt: HostRuntime) -> Result<(), Fail> {
-    for (first, last, operands, gives, align) in ACCESSES {
+fn every_instruction_with_operands(rt: HostRuntime) -> Result<(), Fail> {
+    let alloc = rt.alloc();
+    for (first, last, operands, gives, align) in ROWS {
         for opcode in first..=last {
-            let instruction = &[opcode, align, 0x00];
             let typed = Typed {
                 operands,
-                instruction,
+                opcode,
+                align,
                 gives,
             };
-            assert!(rt; is_judged(rt.alloc(), typed)?, "opcode {opcode}");
-            let instruction = &[opcode, align.saturating_add(1), 0x00];
-            let typed = Typed {
-                operands,
-                instruction,
-                gives,
-            };
-            assert!(rt; !is_valid(rt.alloc(), typed)?, "opcode {opcode}");
+            assert!(rt; is_valid(alloc, typed)?, "opcode {opcode}");
+            assert!(rt; !is_valid_with_others(alloc, typed)?, "opcode {opcode}");
+            assert!(rt; !is_valid_otherwise(alloc, typed)?, "opcode {opcode}");
         }
     }
     Ok(())

@@ -111,7 +111,7 @@ pub const SECTIONS: [(u8, &str); 6] = [
     (3, "03 00 01 01"),
     (5, "01 01 01 02"),
     (6, "02 7F 00 i32.const 00 end 7E 01 i64.const 07 end"),
-    (7, "02 'main 00 02 'memory 02 00"),
+    (7, "01 'main 00 02"),
     (10, "03 02 00 end 04 00 local.get 01 end"),
 ];
 

@@ -15,69 +15,113 @@ const HEADER: &str = "0061736D 01000000";
 /// The header, and the type, function and export sections of one function () -> i64 that is exported as `main`.
 const FRONT: &str = "0061736D 01000000 01 05 01 60 00 01 7E 03 02 01 00 07 08 01 'main 00 00";
 
-/// What is read behind a front, and what is written behind it: numbers in their fewest bytes, no custom section and no
-/// empty one.
-const WRITTEN: [(&str, &str, &str); 13] = [
+/// What is read behind a front, and what is written behind it, with numbers in their fewest bytes, no custom section
+/// and no empty one, or why it is refused.
+const READ: [(&str, &str, Result<&str, DecodeEnd>); 21] = [
     // i64.const 7 in the fewest bytes, with padded numbers and a custom section, and with the longest constant
     (
         FRONT,
         "0A 06 01 04 00 i64.const 07 end",
-        "0A 06 01 04 00 i64.const 07 end",
+        Ok("0A 06 01 04 00 i64.const 07 end"),
     ),
     (
         FRONT,
         "0A 8A80808000 01 08 00 i64.const 8780808000 end 00 02 'x",
-        "0A 06 01 04 00 i64.const 07 end",
+        Ok("0A 06 01 04 00 i64.const 07 end"),
     ),
     (
         FRONT,
         "0A 0F 01 0D 00 i64.const 87808080808080808000 end",
-        "0A 06 01 04 00 i64.const 07 end",
+        Ok("0A 06 01 04 00 i64.const 07 end"),
     ),
     // an index of five bytes, which is the most
     (
         FRONT,
         "0A 0A 01 08 00 call 8080808000 end",
-        "0A 06 01 04 00 call 00 end",
+        Ok("0A 06 01 04 00 call 00 end"),
     ),
     // bodies that have no type
     (
         FRONT,
         "0A 07 01 05 00 unreachable i32.const 00 end",
-        "0A 07 01 05 00 unreachable i32.const 00 end",
+        Ok("0A 07 01 05 00 unreachable i32.const 00 end"),
     ),
-    (FRONT, "0A 8400 01 02 00 end", "0A 04 01 02 00 end"),
+    (FRONT, "0A 8400 01 02 00 end", Ok("0A 04 01 02 00 end")),
     // a loop without an end
     (
         FRONT,
         "0A 0B 01 09 00 loop 40 br 00 end i64.const 07 end",
-        "0A 0B 01 09 00 loop 40 br 00 end i64.const 07 end",
+        Ok("0A 0B 01 09 00 loop 40 br 00 end i64.const 07 end"),
     ),
     // operands of each kind
     (
         FRONT,
         "0A 18 01 16 00 br_table 8100 00 8100 i64.load 8300 8001 local.get 8500 block 7E i32.const FF7F end end",
-        "0A 13 01 11 00 br_table 01 00 01 i64.load 03 8001 local.get 05 block 7E i32.const 7F end end",
+        Ok(
+            "0A 13 01 11 00 br_table 01 00 01 i64.load 03 8001 local.get 05 block 7E i32.const 7F end end",
+        ),
     ),
     // each section: a type (i64) -> (), a function of it with 200 locals, from 1 page to 128, a variable at -1, and the memory as m
     (
         HEADER,
         "00 01 00 01 05 01 60 01 7E 00 03 02 01 00 00 01 00 05 05 01 01 01 8001 06 06 01 7E 01 i64.const 7F end 07 05 01 'm 02 00 0A 08 01 06 01 C88100 7F end",
-        "01 05 01 60 01 7E 00 03 02 01 00 05 05 01 01 01 8001 06 06 01 7E 01 i64.const 7F end 07 05 01 'm 02 00 0A 07 01 05 01 C801 7F end",
+        Ok(
+            "01 05 01 60 01 7E 00 03 02 01 00 05 05 01 01 01 8001 06 06 01 7E 01 i64.const 7F end 07 05 01 'm 02 00 0A 07 01 05 01 C801 7F end",
+        ),
     ),
     // sections with nothing in them
     (
         HEADER,
         "01 01 00 03 01 00 05 01 00 06 01 00 07 01 00 0A 01 00",
-        "",
+        Ok(""),
     ),
-    (HEADER, "01 02 8000 0A 8100 00", ""),
-    (HEADER, "", ""),
+    (HEADER, "01 02 8000 0A 8100 00", Ok("")),
+    (HEADER, "", Ok("")),
     // a name of two bytes that is one letter
     (
         HEADER,
         "05 04 01 00 8000 07 86808000 01 02 C3A9 02 00",
-        "05 03 01 00 00 07 06 01 02 C3A9 02 00",
+        Ok("05 03 01 00 00 07 06 01 02 C3A9 02 00"),
+    ),
+    // a constant of eleven bytes, and one whose last byte has more than its sign
+    (
+        FRONT,
+        "0A 10 01 0E 00 i64.const 8780808080808080808000 end",
+        Err(DecodeEnd::Malformed(29)),
+    ),
+    (
+        FRONT,
+        "0A 0F 01 0D 00 i64.const 8080808080808080807E end",
+        Err(DecodeEnd::Malformed(29)),
+    ),
+    (
+        FRONT,
+        "0A 0A 01 08 00 i32.const FFFFFFFF0F end",
+        Err(DecodeEnd::Malformed(29)),
+    ),
+    // an index of six bytes, and one of 2^32
+    (
+        FRONT,
+        "0A 0B 01 09 00 call 808080808000 end",
+        Err(DecodeEnd::Malformed(29)),
+    ),
+    (
+        FRONT,
+        "0A 0A 01 08 00 call 8080808010 end",
+        Err(DecodeEnd::Malformed(29)),
+    ),
+    // an instruction of floating point
+    (
+        FRONT,
+        "0A 05 01 03 00 A0 end",
+        Err(DecodeEnd::Outside(29, What::Float)),
+    ),
+    // a section of five bytes that promises 2^32 - 1 types, and a body with 2^32 locals
+    (HEADER, "01 05 FFFFFFFF0F", Err(DecodeEnd::Malformed(8))),
+    (
+        FRONT,
+        "0A 0E 01 0C 02 FFFFFFFF0F 7E 01 7E i64.const 07 end",
+        Err(DecodeEnd::Malformed(29)),
     ),
 ];
 
@@ -88,12 +132,18 @@ pub fn rewritten(alloc: Global, bytes: &[u8]) -> Result<Vec<u8>, Fail> {
 }
 
 #[test]
-fn modules_are_written_in_their_fewest_bytes(rt: HostRuntime) -> Result<(), Fail> {
+fn bytes_that_are_read(rt: HostRuntime) -> Result<(), Fail> {
     let alloc = rt.alloc();
-    for (front, read, wanted) in WRITTEN {
-        let out = rewritten(alloc, &bytes_behind(alloc, front, read)?)?;
-        let wanted = bytes_behind(alloc, front, wanted)?;
-        assert_eq!(rt; out.as_slice(), wanted.as_slice(), "{read}");
+    for (front, read, wanted) in READ {
+        let given = bytes_behind(alloc, front, read)?;
+        match wanted {
+            Ok(words) => {
+                let out = rewritten(alloc, &given)?;
+                let wanted = bytes_behind(alloc, front, words)?;
+                assert_eq!(rt; out.as_slice(), wanted.as_slice(), "{read}");
+            }
+            Err(end) => assert_eq!(rt; decode(alloc, &given).err(), Some(end), "{read}"),
+        }
     }
     Ok(())
 }
@@ -140,60 +190,6 @@ fn signed_constants(rt: HostRuntime) -> Result<(), Fail> {
         assert_eq!(rt; constant(&module), Some(z));
         let out = encode(alloc, &module)?;
         assert!(rt; out.ends_with(&bytes(alloc, wanted)?), "at {z}");
-    }
-    Ok(())
-}
-
-/// What is refused behind a front.
-const REFUSED: [(&str, &str, DecodeEnd); 8] = [
-    // a constant of eleven bytes, and one whose last byte has more than its sign
-    (
-        FRONT,
-        "0A 10 01 0E 00 i64.const 8780808080808080808000 end",
-        DecodeEnd::Malformed(29),
-    ),
-    (
-        FRONT,
-        "0A 0F 01 0D 00 i64.const 8080808080808080807E end",
-        DecodeEnd::Malformed(29),
-    ),
-    (
-        FRONT,
-        "0A 0A 01 08 00 i32.const FFFFFFFF0F end",
-        DecodeEnd::Malformed(29),
-    ),
-    // an index of six bytes, and one of 2^32
-    (
-        FRONT,
-        "0A 0B 01 09 00 call 808080808000 end",
-        DecodeEnd::Malformed(29),
-    ),
-    (
-        FRONT,
-        "0A 0A 01 08 00 call 8080808010 end",
-        DecodeEnd::Malformed(29),
-    ),
-    // an instruction of floating point
-    (
-        FRONT,
-        "0A 05 01 03 00 A0 end",
-        DecodeEnd::Outside(29, What::Float),
-    ),
-    // a section of five bytes that promises 2^32 - 1 types, and a body with 2^32 locals
-    (HEADER, "01 05 FFFFFFFF0F", DecodeEnd::Malformed(8)),
-    (
-        FRONT,
-        "0A 0E 01 0C 02 FFFFFFFF0F 7E 01 7E i64.const 07 end",
-        DecodeEnd::Malformed(29),
-    ),
-];
-
-#[test]
-fn refused_bytes(rt: HostRuntime) -> Result<(), Fail> {
-    let alloc = rt.alloc();
-    for (front, read, wanted) in REFUSED {
-        let answer = decode(alloc, &bytes_behind(alloc, front, read)?).err();
-        assert_eq!(rt; answer, Some(wanted), "{read}");
     }
     Ok(())
 }
