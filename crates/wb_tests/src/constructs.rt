@@ -1,6 +1,6 @@
 //! Bodies of constructs: where each of their instructions leads, and bodies that no bytes spell.
 
-use crate::samples::{SECTIONS, module};
+use crate::samples::{SECTIONS, check, module};
 use sqlite_items::Items;
 use std::alloc::{AllocError, Global};
 use std::test::Fail;
@@ -56,17 +56,23 @@ const LEADS: [(&str, usize, (usize, usize)); 13] = [
     ("ii.eie...", 4, (7, 6)),
 ];
 
+// Where the construct at a place of a body leads.
+fn leads(alloc: Global, letters: &str, at: usize) -> Result<Option<(usize, usize)>, Fail> {
+    let body = letters_body(alloc, letters)?;
+    let found = jumps(alloc, body.as_slice())?;
+    Ok(found.get(at).map(|jump| (jump.past, jump.other)))
+}
+
+fn count_jumps(alloc: Global, letters: &str) -> Result<usize, Fail> {
+    let body = letters_body(alloc, letters)?;
+    Ok(jumps(alloc, body.as_slice())?.len())
+}
+
 #[test]
 fn where_constructs_lead(rt: HostRuntime) -> Result<(), Fail> {
-    let alloc = rt.alloc();
     for (letters, at, wanted) in LEADS {
-        let body = letters_body(alloc, letters)?;
-        let Ok(found) = jumps(alloc, body.as_slice()) else {
-            return Ok(assert!(rt; false, "{letters}"));
-        };
-        assert_eq!(rt; found.len(), body.len());
-        let leads = found.get(at).map(|jump| (jump.past, jump.other));
-        assert_eq!(rt; leads, Some(wanted), "{letters} at {at}");
+        let found = leads(rt.alloc(), letters, at)?;
+        check(&rt, found == Some(wanted), letters);
     }
     Ok(())
 }
@@ -76,44 +82,49 @@ const UNSPELLED: [&str; 13] = [
     "", "7", "7..", "7.7", "b7.", "7e.", "be.7.", "1iee.7.", "77u.", "77x.", "1s7.", "e", "ee..",
 ];
 
-#[test]
-fn bodies_that_no_bytes_spell(rt: HostRuntime) -> Result<(), Fail> {
-    let alloc = rt.alloc();
-    for letters in UNSPELLED {
-        let body = letters_body(alloc, letters)?;
-        let count = jumps(alloc, body.as_slice()).ok().map(|found| found.len());
-        assert_eq!(rt; count, Some(letters.len()), "{letters}");
-        let mut m = module(alloc, &SECTIONS, "i64.const 07 end")?;
-        m.funcs.push(Func {
-            ty: 1,
-            locals: Items::new(alloc),
-            body,
-        })?;
-        let answer = validate(alloc, m).err();
-        assert_eq!(rt;
-            answer,
-            Some(InvalidEnd::Invalid(Part::Body(3))),
-            "{letters}"
-        );
-    }
-    Ok(())
+// What is invalid of a module with such a body.
+fn with_body(alloc: Global, letters: &str) -> Result<Option<InvalidEnd>, Fail> {
+    let body = letters_body(alloc, letters)?;
+    let mut m = module(alloc, &SECTIONS, "i64.const 07 end")?;
+    m.funcs.push(Func {
+        ty: 1,
+        locals: Items::new(alloc),
+        body,
+    })?;
+    Ok(validate(alloc, m).err())
+}
+
+// What is invalid of a module with a global that begins so.
+fn with_global(alloc: Global, letters: &str) -> Result<Option<InvalidEnd>, Fail> {
+    let init = letters_body(alloc, letters)?;
+    let mut m = module(alloc, &SECTIONS, "i64.const 07 end")?;
+    m.globals.push(wb_syntax::Global {
+        ty: NumType::I64,
+        mutable: false,
+        init,
+    })?;
+    Ok(validate(alloc, m).err())
 }
 
 #[test]
-fn initial_values_that_no_bytes_spell(rt: HostRuntime) -> Result<(), Fail> {
-    let alloc = rt.alloc();
+fn code_that_no_bytes_spell(rt: HostRuntime) -> Result<(), Fail> {
     for letters in UNSPELLED {
-        let mut m = module(alloc, &SECTIONS, "i64.const 07 end")?;
-        m.globals.push(wb_syntax::Global {
-            ty: NumType::I64,
-            mutable: false,
-            init: letters_body(alloc, letters)?,
-        })?;
-        let answer = validate(alloc, m).err();
-        assert_eq!(rt;
-            answer,
-            Some(InvalidEnd::Invalid(Part::GlobalInit(2))),
-            "{letters}"
+        check(
+            &rt,
+            count_jumps(rt.alloc(), letters)? == letters.len(),
+            letters,
+        );
+        let end = with_body(rt.alloc(), letters)?;
+        check(
+            &rt,
+            end == Some(InvalidEnd::Invalid(Part::Body(3))),
+            letters,
+        );
+        let end = with_global(rt.alloc(), letters)?;
+        check(
+            &rt,
+            end == Some(InvalidEnd::Invalid(Part::GlobalInit(2))),
+            letters,
         );
     }
     Ok(())

@@ -1,7 +1,7 @@
 //! Operations at their edges, as the WebAssembly standard has them (4.3.2).
 
 use crate::running::{call, machine};
-use crate::samples::{body, push_words};
+use crate::samples::{body, check, push_words};
 use std::alloc::Global;
 use std::test::Fail;
 use wb_machine::{MachineEnd, TrapKind};
@@ -111,30 +111,33 @@ fn around(opcode: u8) -> (&'static str, &'static str) {
     }
 }
 
-// What an operation gives on these operands, or why it traps.
-fn answer(
-    alloc: Global,
-    opcode: u8,
-    a: i64,
-    b: i64,
-) -> Result<Option<Result<i64, TrapKind>>, Fail> {
+// The body of an operation, with its locals.
+fn main_of(alloc: Global, opcode: u8) -> Result<Vec<u8>, Fail> {
     let (before, behind) = around(opcode);
     let mut code = body(alloc, before)?;
     code.push(opcode)?;
     push_words(alloc, &mut code, behind)?;
-    let mut m = machine(alloc, 99, &code)?;
-    match call(&mut m, &[a, b], 9) {
-        Some(MachineEnd::Returned(z)) => Ok(Some(Ok(z))),
-        Some(MachineEnd::Trap(kind)) => Ok(Some(Err(kind))),
-        _ => Ok(None),
+    Ok(code)
+}
+
+// How a run of an operation ends on these operands.
+fn end_of(alloc: Global, opcode: u8, operands: &[i64]) -> Result<Option<MachineEnd>, Fail> {
+    let mut m = machine(alloc, 99, &main_of(alloc, opcode)?)?;
+    Ok(call(&mut m, operands, 9))
+}
+
+fn as_end(answer: Result<i64, TrapKind>) -> MachineEnd {
+    match answer {
+        Ok(z) => MachineEnd::Returned(z),
+        Err(kind) => MachineEnd::Trap(kind),
     }
 }
 
 #[test]
 fn answers(rt: HostRuntime) -> Result<(), Fail> {
     for (opcode, a, b, wanted) in ANSWERS {
-        let answer = answer(rt.alloc(), opcode, a, b)?;
-        assert_eq!(rt; answer, Some(wanted), "opcode {opcode}");
+        let end = end_of(rt.alloc(), opcode, &[a, b])?;
+        check(&rt, end == Some(as_end(wanted)), opcode);
     }
     Ok(())
 }

@@ -1,6 +1,6 @@
 //! Modules that are run.
 
-use crate::samples::{SECTIONS, body, module_bytes};
+use crate::samples::{SECTIONS, body, check, module_bytes};
 use std::alloc::Global;
 use std::test::Fail;
 use wb_decode::decode;
@@ -154,13 +154,23 @@ const RESULTS: [(&str, i64, i64); 32] = [
     ),
 ];
 
+// How the first call of a machine for so many words ends.
+fn end_of(
+    alloc: Global,
+    main: &str,
+    words: u8,
+    args: &[i64],
+    limit: u64,
+) -> Result<Option<MachineEnd>, Fail> {
+    let mut m = machine(alloc, words, &body(alloc, main)?)?;
+    Ok(call(&mut m, args, limit))
+}
+
 #[test]
 fn results(rt: HostRuntime) -> Result<(), Fail> {
-    let alloc = rt.alloc();
     for (main, a, wanted) in RESULTS {
-        let mut m = machine(alloc, 99, &body(alloc, main)?)?;
-        let end = call(&mut m, &[a, 8], 99);
-        assert_eq!(rt; end, Some(MachineEnd::Returned(wanted)), "{main}");
+        let end = end_of(rt.alloc(), main, 99, &[a, 8], 99)?;
+        check(&rt, end == Some(MachineEnd::Returned(wanted)), main);
     }
     Ok(())
 }
@@ -226,14 +236,9 @@ const ENDS: [(&str, u8, u64, MachineEnd); 13] = [
 
 #[test]
 fn ends_of_runs(rt: HostRuntime) -> Result<(), Fail> {
-    let alloc = rt.alloc();
     for (main, words, limit, wanted) in ENDS {
-        let mut m = machine(alloc, words, &body(alloc, main)?)?;
-        assert_eq!(rt;
-            call(&mut m, &[5, 8], limit),
-            Some(wanted),
-            "{main} {words} {limit}"
-        );
+        let end = end_of(rt.alloc(), main, words, &[5, 8], limit)?;
+        check(&rt, end == Some(wanted), (main, words));
     }
     Ok(())
 }
@@ -255,10 +260,11 @@ const CALLS: [(i64, i64, MachineEnd, u32); 4] = [
 fn calls_that_follow_one_another(rt: HostRuntime) -> Result<(), Fail> {
     let alloc = rt.alloc();
     let mut m = machine(alloc, 99, &body(alloc, COUNTING)?)?;
-    assert_eq!(rt; m.main_arity(), Some(2));
+    check(&rt, m.main_arity() == Some(2), "main");
     for (a, b, wanted, status) in CALLS {
-        assert_eq!(rt; call(&mut m, &[a, b], 99), Some(wanted), "{a} {b}");
-        assert_eq!(rt; m.status(), status, "{a} {b}");
+        let end = call(&mut m, &[a, b], 99);
+        check(&rt, end == Some(wanted), a);
+        check(&rt, m.status() == status, status);
     }
     Ok(())
 }

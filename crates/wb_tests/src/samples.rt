@@ -1,6 +1,8 @@
 //! Bytes written as words, and a module whose sections are such words.
 
 use std::alloc::Global;
+use std::fmt::Debug;
+use std::process::Abort;
 use std::test::Fail;
 use wb_decode::decode;
 use wb_syntax::Module;
@@ -124,16 +126,21 @@ pub fn replace(sections: &mut [(u8, &'static str); 6], id: u8, words: &'static s
     }
 }
 
+// What a section has in it, where the last body is this one.
+fn contents(alloc: Global, id: u8, words: &str, body: &[u8]) -> Result<Vec<u8>, Fail> {
+    let mut contents = bytes(alloc, words)?;
+    if id == 10 {
+        push_sized(&mut contents, body)?;
+    }
+    Ok(contents)
+}
+
 /// The module of these sections, where the last body is this one, with its locals.
 pub fn module_bytes(alloc: Global, sections: &[(u8, &str)], body: &[u8]) -> Result<Vec<u8>, Fail> {
-    let mut out = Vec::from_slice(alloc, b"\0asm\x01\0\0\0")?;
+    let mut out = bytes(alloc, "0061736D 01000000")?;
     for (id, words) in sections {
-        let mut contents = bytes(alloc, words)?;
-        if *id == 10 {
-            push_sized(&mut contents, body)?;
-        }
         out.push(*id)?;
-        push_sized(&mut out, &contents)?;
+        push_sized(&mut out, &contents(alloc, *id, words, body)?)?;
     }
     Ok(out)
 }
@@ -154,4 +161,9 @@ pub fn bytes_behind(alloc: Global, first: &str, words: &str) -> Result<Vec<u8>, 
 pub fn module(alloc: Global, sections: &[(u8, &str)], words: &str) -> Result<Module, Fail> {
     let bytes = module_bytes(alloc, sections, &body(alloc, words)?)?;
     Ok(decode(alloc, &bytes)?)
+}
+
+/// Ends the test where something is not right of a row.
+pub fn check<R: Debug + Drop>(rt: &impl Abort, is_right: bool, row: R) {
+    assert!(rt; is_right, "{row:?}");
 }

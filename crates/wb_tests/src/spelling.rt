@@ -1,6 +1,6 @@
 //! Which bytes are read, and which are written, by the standard's section 5.
 
-use crate::samples::{SECTIONS, body, bytes, bytes_behind, module, module_bytes};
+use crate::samples::{SECTIONS, body, bytes, bytes_behind, check, module, module_bytes};
 use std::alloc::Global;
 use std::mem::size_of;
 use std::test::Fail;
@@ -131,19 +131,30 @@ pub fn rewritten(alloc: Global, bytes: &[u8]) -> Result<Vec<u8>, Fail> {
     Ok(encode(alloc, &module)?)
 }
 
+// Whether these bytes are written so.
+fn is_written(alloc: Global, given: &[u8], wanted: &[u8]) -> Result<bool, Fail> {
+    let out = rewritten(alloc, given)?;
+    Ok(out.as_slice() == wanted)
+}
+
+// Whether what is read behind a front is answered so.
+fn is_answered(
+    alloc: Global,
+    front: &str,
+    read: &str,
+    wanted: Result<&str, DecodeEnd>,
+) -> Result<bool, Fail> {
+    let given = bytes_behind(alloc, front, read)?;
+    match wanted {
+        Ok(words) => is_written(alloc, &given, &bytes_behind(alloc, front, words)?),
+        Err(end) => Ok(decode(alloc, &given).err() == Some(end)),
+    }
+}
+
 #[test]
 fn bytes_that_are_read(rt: HostRuntime) -> Result<(), Fail> {
-    let alloc = rt.alloc();
     for (front, read, wanted) in READ {
-        let given = bytes_behind(alloc, front, read)?;
-        match wanted {
-            Ok(words) => {
-                let out = rewritten(alloc, &given)?;
-                let wanted = bytes_behind(alloc, front, words)?;
-                assert_eq!(rt; out.as_slice(), wanted.as_slice(), "{read}");
-            }
-            Err(end) => assert_eq!(rt; decode(alloc, &given).err(), Some(end), "{read}"),
-        }
+        check(&rt, is_answered(rt.alloc(), front, read, wanted)?, read);
     }
     Ok(())
 }
@@ -182,14 +193,18 @@ fn constant(module: &Module) -> Option<i64> {
     }
 }
 
+// Whether the constant is read so, and what is written ends so.
+fn is_spelled(alloc: Global, z: i64, read: &str, wanted: &str) -> Result<bool, Fail> {
+    let module = module(alloc, &SECTIONS, read)?;
+    let out = encode(alloc, &module)?;
+    let ends_so = out.ends_with(&bytes(alloc, wanted)?);
+    Ok(ends_so && constant(&module) == Some(z))
+}
+
 #[test]
 fn signed_constants(rt: HostRuntime) -> Result<(), Fail> {
-    let alloc = rt.alloc();
     for (z, read, wanted) in CONSTANTS {
-        let module = module(alloc, &SECTIONS, read)?;
-        assert_eq!(rt; constant(&module), Some(z));
-        let out = encode(alloc, &module)?;
-        assert!(rt; out.ends_with(&bytes(alloc, wanted)?), "at {z}");
+        check(&rt, is_spelled(rt.alloc(), z, read, wanted)?, z);
     }
     Ok(())
 }
@@ -208,12 +223,11 @@ fn fault_of_cut(n: usize) -> Option<DecodeEnd> {
 
 #[test]
 fn cuts_of_a_module(rt: HostRuntime) -> Result<(), Fail> {
-    let alloc = rt.alloc();
-    let bytes = bytes_behind(alloc, FRONT, "0A 06 01 04 00 i64.const 07 end")?;
+    let bytes = bytes_behind(rt.alloc(), FRONT, "0A 06 01 04 00 i64.const 07 end")?;
     assert_eq!(rt; bytes.len(), 37);
     for n in 0..38 {
-        let answer = decode(alloc, &bytes.as_slice()[..n]).err();
-        assert_eq!(rt; answer, fault_of_cut(n), "at {n}");
+        let end = decode(rt.alloc(), &bytes.as_slice()[..n]).err();
+        check(&rt, end == fault_of_cut(n), n);
     }
     Ok(())
 }
@@ -231,16 +245,28 @@ fn nest(alloc: Global, depth: u32) -> Result<Vec<u8>, Fail> {
     Ok(code)
 }
 
+// Whether the bytes are those of a valid module whose function 2 has so many instructions.
+fn is_valid_with(alloc: Global, bytes: &[u8], count: usize) -> Result<bool, Fail> {
+    let module = decode(alloc, bytes)?;
+    let found = module.funcs.get(2).map(|func| func.body.len());
+    Ok(validate(alloc, module).is_ok() && found == Some(count))
+}
+
 #[test]
 fn deep_nesting(rt: HostRuntime) -> Result<(), Fail> {
     let alloc = rt.alloc();
     let bytes = module_bytes(alloc, &SECTIONS, &nest(alloc, 100_000)?)?;
     let out = rewritten(alloc, &bytes)?;
-    assert!(rt; out.len() < bytes.len());
-    let module = decode(alloc, &out)?;
-    let count = module.funcs.get(2).map(|func| func.body.len());
-    assert_eq!(rt; count, Some(200_002));
-    assert!(rt; validate(alloc, module).is_ok());
-    assert!(rt; size_of::<Instr>() <= 40);
+    check(
+        &rt,
+        is_valid_with(alloc, &bytes, 200_002)?,
+        "as it was made",
+    );
+    check(
+        &rt,
+        is_valid_with(alloc, &out, 200_002)?,
+        "as it was written",
+    );
+    check(&rt, size_of::<Instr>() <= 40, "size of an instruction");
     Ok(())
 }

@@ -1,6 +1,7 @@
 //! Bodies that have a type and bodies that have none, and modules of which one part is wrong.
 
-use crate::samples::{SECTIONS, module, replace};
+use crate::samples::{SECTIONS, check, module, replace};
+use std::alloc::Global;
 use std::test::Fail;
 use wb_valid::{InvalidEnd, Part, validate};
 
@@ -149,17 +150,21 @@ const BODIES: [(&str, bool); 102] = [
     ("i64.const 00 i32.const 00 i64.add end", false),
 ];
 
+// What is invalid of the module of these sections with a `main` of these words.
+fn verdict(alloc: Global, sections: &[(u8, &str)], main: &str) -> Result<Option<InvalidEnd>, Fail> {
+    Ok(validate(alloc, module(alloc, sections, main)?).err())
+}
+
+fn invalid(part: Option<Part>) -> Option<InvalidEnd> {
+    part.map(InvalidEnd::Invalid)
+}
+
 #[test]
 fn bodies(rt: HostRuntime) -> Result<(), Fail> {
-    let alloc = rt.alloc();
-    for (words, is_typed) in BODIES {
-        let wanted = if is_typed {
-            None
-        } else {
-            Some(InvalidEnd::Invalid(Part::Body(2)))
-        };
-        let answer = validate(alloc, module(alloc, &SECTIONS, words)?).err();
-        assert_eq!(rt; answer, wanted, "{words}");
+    for (main, is_typed) in BODIES {
+        let end = verdict(rt.alloc(), &SECTIONS, main)?;
+        let wrong = if is_typed { None } else { Some(Part::Body(2)) };
+        check(&rt, end == invalid(wrong), main);
     }
     Ok(())
 }
@@ -269,12 +274,11 @@ const REPLACED: [(u8, &str, &str, Option<Part>); 27] = [
 
 #[test]
 fn wrong_parts(rt: HostRuntime) -> Result<(), Fail> {
-    let alloc = rt.alloc();
-    for (id, words, main, wanted) in REPLACED {
+    for (id, words, main, wrong) in REPLACED {
         let mut sections = SECTIONS;
         replace(&mut sections, id, words);
-        let answer = validate(alloc, module(alloc, &sections, main)?).err();
-        assert_eq!(rt; answer, wanted.map(InvalidEnd::Invalid), "{words} {main}");
+        let end = verdict(rt.alloc(), &sections, main)?;
+        check(&rt, end == invalid(wrong), (words, main));
     }
     Ok(())
 }
@@ -300,12 +304,11 @@ const ONE_BY_ONE: [(u8, &str, Part); 7] = [
 
 #[test]
 fn order_of_parts(rt: HostRuntime) -> Result<(), Fail> {
-    let alloc = rt.alloc();
     let mut sections = SECTIONS;
-    for (id, words, wanted) in ONE_BY_ONE {
+    for (id, words, wrong) in ONE_BY_ONE {
         replace(&mut sections, id, words);
-        let answer = validate(alloc, module(alloc, &sections, "end")?).err();
-        assert_eq!(rt; answer, Some(InvalidEnd::Invalid(wanted)), "{words}");
+        let end = verdict(rt.alloc(), &sections, "end")?;
+        check(&rt, end == invalid(Some(wrong)), words);
     }
     Ok(())
 }
