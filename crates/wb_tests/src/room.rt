@@ -1,6 +1,6 @@
 //! The parts of a machine's state, each made once, and a memory that is too large for one.
 
-use crate::samples::{SECTIONS, check, module, replace};
+use crate::samples::{SECTIONS, check, module, replaced};
 use std::alloc::Global;
 use std::test::Fail;
 use wb_control::{Callers, Labels};
@@ -40,8 +40,7 @@ fn has_frames(alloc: Global) -> Result<bool, Fail> {
 
 // Why there is no machine for a memory of 1,025 pages.
 fn end_of_large_memory(alloc: Global) -> Result<Option<OpenEnd>, Fail> {
-    let mut sections = SECTIONS;
-    replace(&mut sections, 5, "01 00 8108");
+    let sections = replaced(alloc, &SECTIONS, 5, "01 00 8108")?;
     let valid = validate(alloc, module(alloc, &sections, "i64.const 07 end")?)?;
     Ok(Machine::new(alloc, valid, 9).err())
 }

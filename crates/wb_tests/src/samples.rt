@@ -117,13 +117,18 @@ pub const SECTIONS: [(u8, &str); 6] = [
     (10, "03 02 00 end 04 00 local.get 01 end"),
 ];
 
-/// Replaces the section of this id.
-pub fn replace(sections: &mut [(u8, &'static str); 6], id: u8, words: &'static str) {
-    for section in sections.iter_mut() {
-        if section.0 == id {
-            section.1 = words;
-        }
+/// The sections, where the one of this id has these words.
+pub fn replaced<'a>(
+    alloc: Global,
+    sections: &[(u8, &'a str)],
+    id: u8,
+    words: &'a str,
+) -> Result<Vec<(u8, &'a str)>, Fail> {
+    let mut out = Vec::new(alloc);
+    for (other, kept) in sections {
+        out.push((*other, if *other == id { words } else { *kept }))?;
     }
+    Ok(out)
 }
 
 // What a section has in it, where the last body is this one.

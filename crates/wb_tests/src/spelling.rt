@@ -1,6 +1,6 @@
 //! Which bytes are read, and which are written, by the standard's section 5.
 
-use crate::samples::{SECTIONS, body, bytes, bytes_behind, check, module, module_bytes};
+use crate::samples::{SECTIONS, body, bytes, bytes_behind, check, module_bytes};
 use std::alloc::Global;
 use std::mem::size_of;
 use std::test::Fail;
@@ -126,9 +126,15 @@ const READ: [(&str, &str, Result<&str, DecodeEnd>); 21] = [
 ];
 
 /// What the encoder makes of the module that the bytes are.
-pub fn rewritten(alloc: Global, bytes: &[u8]) -> Result<Vec<u8>, Fail> {
-    let module = decode(alloc, bytes)?;
-    Ok(encode(alloc, &module)?)
+pub fn rewritten(alloc: Global, bytes: &[u8]) -> Result<Vec<u8>, DecodeEnd> {
+    let module = match decode(alloc, bytes) {
+        Ok(module) => module,
+        Err(end) => return Err(end),
+    };
+    match encode(alloc, &module) {
+        Ok(out) => Ok(out),
+        Err(_) => Err(DecodeEnd::NoMemory),
+    }
 }
 
 // Whether these bytes are written so.
@@ -193,12 +199,22 @@ fn constant(module: &Module) -> Option<i64> {
     }
 }
 
+// Whether the constant is read so.
+fn is_read(alloc: Global, z: i64, bytes: &[u8]) -> Result<bool, Fail> {
+    let module = decode(alloc, bytes)?;
+    Ok(constant(&module) == Some(z))
+}
+
+// Whether what is written ends so.
+fn is_written_behind(alloc: Global, given: &[u8], wanted: &str) -> Result<bool, Fail> {
+    let out = rewritten(alloc, given)?;
+    Ok(out.ends_with(&bytes(alloc, wanted)?))
+}
+
 // Whether the constant is read so, and what is written ends so.
 fn is_spelled(alloc: Global, z: i64, read: &str, wanted: &str) -> Result<bool, Fail> {
-    let module = module(alloc, &SECTIONS, read)?;
-    let out = encode(alloc, &module)?;
-    let ends_so = out.ends_with(&bytes(alloc, wanted)?);
-    Ok(ends_so && constant(&module) == Some(z))
+    let given = module_bytes(alloc, &SECTIONS, &body(alloc, read)?)?;
+    Ok(is_read(alloc, z, &given)? && is_written_behind(alloc, &given, wanted)?)
 }
 
 #[test]
