@@ -44,6 +44,3 @@ pub mod valid;
 pub use laws::{first_is_one, stands_on_any};
 pub use part::{InvalidEnd, Part};
 pub use valid::{ValidModule, validate};
-
-#[cfg(test)]
-mod samples;
