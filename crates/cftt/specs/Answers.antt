@@ -15,7 +15,7 @@ use Rattle.cftt.specs.declared.top.Report.{Report}
 abbrev pub OnLine : List (List ℕ) → (Command → Type 0) → Type 0
 OnLine words P = (c : Command) × IsLine words c × P c
 
--- the command ended well: the input was read to its end, and all that it writes was taken
+-- the command ended well: the input was read to its end, all that it writes was taken, and no fault was counted
 pub record IsDone (words : List (List ℕ)) (before after : Ends) (report : Report) : Type 0 where
   pub command : Command
   pub line : IsLine words command
@@ -24,6 +24,7 @@ pub record IsDone (words : List (List ℕ)) (before after : Ends) (report : Repo
   pub output : List ℕ
   pub writes : Writes command input report output
   pub taken : Appends before.taken after.taken output
+  pub counted : (after.read_faults ≡ before.read_faults) × (after.write_faults ≡ before.write_faults)
 
 -- the input was read to its end, and the command refuses it
 pub record IsRefused (c : Command) (before after : Ends) (r : Refusal) : Type 0 where

@@ -92,3 +92,14 @@ fn comes_to(alloc: Global, line: &str, input: &[u8], wanted: &str) -> Result<boo
         Err(_) => is_told(&seen, wanted),
     })
 }
+
+// The words, the input and what is wanted of a row.
+fn fields(row: &str) -> Result<(&str, &str, &str), Fail> {
+    let Some((words, rest)) = row.split_once(" § ") else {
+        return Err(Fail::from("no input"));
+    };
+    match rest.split_once(" § ") {
+        Some((input, wanted)) => Ok((words, input, wanted)),
+        None => Err(Fail::from("nothing wanted")),
+    }
+}
