@@ -1,5 +1,6 @@
--- Numbers of tokens, where they are in range.
-use Rattle.std.proofs.Common.{◌≡◌, refl, sym, subst, ℕ, Bool, true, false, List, Some, None, if◌then◌else◌}
+-- Numbers and words of tokens.
+use Rattle.std.proofs.Common.{◌≡◌, refl, ap, sym, subst, ℕ, Bool, true, false, List, Some, None, if◌then◌else◌}
+use Rattle.cf_lex.specs.declared.keywords.Keyword.{Keyword}
 use Rattle.cf_lex.specs.declared.token.TokenKind.{TokenKind}
 use Rattle.cf_lex.specs.declared.token.TokenKind.TheVariants as kind
 use Rattle.cf_grammar.specs.declared.classes.Class.{Class}
@@ -27,3 +28,11 @@ named_kind kind.Whole text p e = absurd (subst is_name (sym e) tt)
 named_kind kind.NatLit text p e = absurd (subst is_name (sym e) tt)
 named_kind kind.Hole text p e = absurd (subst is_name (sym e) tt)
 named_kind (kind.Mark z) text p e = absurd (subst is_name (sym e) tt)
+
+abbrev word_or : Keyword → Class → Keyword
+word_or y (class.Word z) = z
+word_or y k = y
+
+-- the class of a word tells the word
+pub word_inj : {y z : Keyword} → class.Word y ≡ class.Word z → y ≡ z
+word_inj {y = y} e = ap (word_or y) e

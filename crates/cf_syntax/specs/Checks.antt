@@ -1,5 +1,5 @@
 -- What is told of all tokens of a text.
-use Rattle.std.specs.Prelude.{ℕ, ◌+◌, ◌<◌, Bool, true, false, List, ◌∷◌, take, drop, length, ◌≡◌}
+use Rattle.std.specs.Prelude.{ℕ, ◌+◌, ◌<◌, Bool, true, false, List, [], ◌∷◌, take, drop, length, ◌≡◌}
 use Rattle.std.specs.List.{list_all}
 use Rattle.cf_syntax.specs.Numbers.{in_range}
 use Rattle.cf_syntax.specs.Tokens.{Token}

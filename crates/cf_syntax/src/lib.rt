@@ -7,7 +7,6 @@ mod judging;
 mod numbers;
 mod source;
 
-pub use cf_base::Limit;
 pub use ends::{OutOfMemory, ParseEnd};
 pub use judging::judge;
 pub use source::Source;
