@@ -7,12 +7,25 @@ ghost use Rattle.cf_syntax.specs.Source.{from};
 ghost use Rattle.cf_syntax.specs.Tokens as spec;
 ghost use Rattle.cf_parse.specs.Values.{sems};
 
-use crate::applying::{application, behind, chain, empty, explicit_argument, implicit_argument, same};
-use crate::atoms::{brackets, constant, construction, enclosed, four_atoms, hole, lift, literal, numeral, one_atom, quote, splice, three_atoms, two_atoms, variable};
+use crate::applying::{
+    application, behind, chain, empty, explicit_argument, implicit_argument, same,
+};
+use crate::atoms::{
+    brackets, constant, construction, enclosed, four_atoms, hole, lift, literal, numeral, one_atom,
+    quote, splice, three_atoms, two_atoms, variable,
+};
 use crate::binding::{implicit_binder, named, typed_binder, unnamed, untyped_binder};
-use crate::declarations::{constructor, data, explicit_program, meta, object, parameter, plain_program, prelude_program};
-use crate::lists::{first_argument, first_binder, first_branch, first_constructor, first_declaration, first_parameter, first_term, next_branch, next_constructor, next_term};
-use crate::terms::{arrow, branch, cases, function, function_type, lambda, meta_let, onto_meta, onto_object, pair_type, recursion, value_let};
+use crate::declarations::{
+    constructor, data, explicit_program, meta, object, parameter, plain_program, prelude_program,
+};
+use crate::lists::{
+    first_argument, first_binder, first_branch, first_constructor, first_declaration,
+    first_parameter, first_term, next_branch, next_constructor, next_term,
+};
+use crate::terms::{
+    arrow, branch, cases, function, function_type, lambda, meta_let, onto_meta, onto_object,
+    pair_type, recursion, value_let,
+};
 use crate::values::Value;
 use cf_base::At;
 use cf_grammar::Production;

@@ -71,7 +71,11 @@ fn with_arguments(
 }
 
 // `t @ u @ ..`
-pub(crate) fn chain(source: &Source<'_>, values: &mut Vec<Value>, place: At) -> Result<(), OutOfMemory>
+pub(crate) fn chain(
+    source: &Source<'_>,
+    values: &mut Vec<Value>,
+    place: At,
+) -> Result<(), OutOfMemory>
     requires { AllFit (params by.Chain) (sems source.now values.old) }
     ensures { IfOk result (λ _. sems source.now values.new ≡ reduced by.Chain place (sems source.now values.old)) }
 {
@@ -83,7 +87,11 @@ pub(crate) fn chain(source: &Source<'_>, values: &mut Vec<Value>, place: At) -> 
 }
 
 // `t u {v} ..`
-pub(crate) fn application(source: &Source<'_>, values: &mut Vec<Value>, place: At) -> Result<(), OutOfMemory>
+pub(crate) fn application(
+    source: &Source<'_>,
+    values: &mut Vec<Value>,
+    place: At,
+) -> Result<(), OutOfMemory>
     requires { AllFit (params by.Application) (sems source.now values.old) }
     ensures { IfOk result (λ _. sems source.now values.new ≡ reduced by.Application place (sems source.now values.old)) }
 {
@@ -95,7 +103,11 @@ pub(crate) fn application(source: &Source<'_>, values: &mut Vec<Value>, place: A
 }
 
 // an argument
-pub(crate) fn explicit_argument(source: &Source<'_>, values: &mut Vec<Value>, place: At) -> Result<(), OutOfMemory>
+pub(crate) fn explicit_argument(
+    source: &Source<'_>,
+    values: &mut Vec<Value>,
+    place: At,
+) -> Result<(), OutOfMemory>
     requires { AllFit (params by.ExplicitArgument) (sems source.now values.old) }
     ensures { IfOk result (λ _. sems source.now values.new ≡ reduced by.ExplicitArgument place (sems source.now values.old)) }
 {
@@ -109,7 +121,11 @@ pub(crate) fn explicit_argument(source: &Source<'_>, values: &mut Vec<Value>, pl
 }
 
 // an argument between braces
-pub(crate) fn implicit_argument(source: &Source<'_>, values: &mut Vec<Value>, place: At) -> Result<(), OutOfMemory>
+pub(crate) fn implicit_argument(
+    source: &Source<'_>,
+    values: &mut Vec<Value>,
+    place: At,
+) -> Result<(), OutOfMemory>
     requires { AllFit (params by.ImplicitArgument) (sems source.now values.old) }
     ensures { IfOk result (λ _. sems source.now values.new ≡ reduced by.ImplicitArgument place (sems source.now values.old)) }
 {
@@ -125,7 +141,11 @@ pub(crate) fn implicit_argument(source: &Source<'_>, values: &mut Vec<Value>, pl
 }
 
 // what its only symbol means
-pub(crate) fn same(source: &Source<'_>, values: &mut Vec<Value>, place: At) -> Result<(), OutOfMemory>
+pub(crate) fn same(
+    source: &Source<'_>,
+    values: &mut Vec<Value>,
+    place: At,
+) -> Result<(), OutOfMemory>
     requires { AllFit (params by.Same) (sems source.now values.old) }
     ensures { IfOk result (λ _. sems source.now values.new ≡ reduced by.Same place (sems source.now values.old)) }
 {
@@ -133,7 +153,11 @@ pub(crate) fn same(source: &Source<'_>, values: &mut Vec<Value>, place: At) -> R
 }
 
 // a part behind a mark
-pub(crate) fn behind(source: &Source<'_>, values: &mut Vec<Value>, place: At) -> Result<(), OutOfMemory>
+pub(crate) fn behind(
+    source: &Source<'_>,
+    values: &mut Vec<Value>,
+    place: At,
+) -> Result<(), OutOfMemory>
     requires { AllFit (params by.Behind) (sems source.now values.old) }
     ensures { IfOk result (λ _. sems source.now values.new ≡ reduced by.Behind place (sems source.now values.old)) }
 {
@@ -144,7 +168,11 @@ pub(crate) fn behind(source: &Source<'_>, values: &mut Vec<Value>, place: At) ->
 }
 
 // no symbol
-pub(crate) fn empty(source: &Source<'_>, values: &mut Vec<Value>, place: At) -> Result<(), OutOfMemory>
+pub(crate) fn empty(
+    source: &Source<'_>,
+    values: &mut Vec<Value>,
+    place: At,
+) -> Result<(), OutOfMemory>
     requires { AllFit (params by.Empty) (sems source.now values.old) }
     ensures { IfOk result (λ _. sems source.now values.new ≡ reduced by.Empty place (sems source.now values.old)) }
 {

@@ -10,7 +10,10 @@ ghost use Rattle.cf_parse.specs.Values.{optional_brackets, optional_term, sems};
 ghost use Rattle.cf_tree.specs.View.{tree_of};
 
 use crate::parts::missing;
-use crate::taking::{put_form, take_brackets, take_named, take_optional_term, take_term, take_terms, take_token, take_word};
+use crate::taking::{
+    put_form, take_brackets, take_named, take_optional_term, take_term, take_terms, take_token,
+    take_word,
+};
 use crate::values::{Value, pop, push};
 use crate::words::{with_four, with_none, with_one, with_three, with_two};
 use cf_base::At;
@@ -48,7 +51,11 @@ fn parenthesized(
 }
 
 // `Int`
-pub(crate) fn constant(source: &Source<'_>, values: &mut Vec<Value>, place: At) -> Result<(), OutOfMemory>
+pub(crate) fn constant(
+    source: &Source<'_>,
+    values: &mut Vec<Value>,
+    place: At,
+) -> Result<(), OutOfMemory>
     requires { AllFit (params by.Constant) (sems source.now values.old) }
     ensures { IfOk result (λ _. sems source.now values.new ≡ reduced by.Constant place (sems source.now values.old)) }
 {
@@ -58,7 +65,11 @@ pub(crate) fn constant(source: &Source<'_>, values: &mut Vec<Value>, place: At) 
 }
 
 // `suc n`
-pub(crate) fn one_atom(source: &Source<'_>, values: &mut Vec<Value>, place: At) -> Result<(), OutOfMemory>
+pub(crate) fn one_atom(
+    source: &Source<'_>,
+    values: &mut Vec<Value>,
+    place: At,
+) -> Result<(), OutOfMemory>
     requires { AllFit (params by.OneAtom) (sems source.now values.old) }
     ensures { IfOk result (λ _. sems source.now values.new ≡ reduced by.OneAtom place (sems source.now values.old)) }
 {
@@ -69,7 +80,11 @@ pub(crate) fn one_atom(source: &Source<'_>, values: &mut Vec<Value>, place: At) 
 }
 
 // `cons t u`
-pub(crate) fn two_atoms(source: &Source<'_>, values: &mut Vec<Value>, place: At) -> Result<(), OutOfMemory>
+pub(crate) fn two_atoms(
+    source: &Source<'_>,
+    values: &mut Vec<Value>,
+    place: At,
+) -> Result<(), OutOfMemory>
     requires { AllFit (params by.TwoAtoms) (sems source.now values.old) }
     ensures { IfOk result (λ _. sems source.now values.new ≡ reduced by.TwoAtoms place (sems source.now values.old)) }
 {
@@ -81,7 +96,11 @@ pub(crate) fn two_atoms(source: &Source<'_>, values: &mut Vec<Value>, place: At)
 }
 
 // `pair S t u`
-pub(crate) fn three_atoms(source: &Source<'_>, values: &mut Vec<Value>, place: At) -> Result<(), OutOfMemory>
+pub(crate) fn three_atoms(
+    source: &Source<'_>,
+    values: &mut Vec<Value>,
+    place: At,
+) -> Result<(), OutOfMemory>
     requires { AllFit (params by.ThreeAtoms) (sems source.now values.old) }
     ensures { IfOk result (λ _. sems source.now values.new ≡ reduced by.ThreeAtoms place (sems source.now values.old)) }
 {
@@ -94,7 +113,11 @@ pub(crate) fn three_atoms(source: &Source<'_>, values: &mut Vec<Value>, place: A
 }
 
 // `natrec P z s n`
-pub(crate) fn four_atoms(source: &Source<'_>, values: &mut Vec<Value>, place: At) -> Result<(), OutOfMemory>
+pub(crate) fn four_atoms(
+    source: &Source<'_>,
+    values: &mut Vec<Value>,
+    place: At,
+) -> Result<(), OutOfMemory>
     requires { AllFit (params by.FourAtoms) (sems source.now values.old) }
     ensures { IfOk result (λ _. sems source.now values.new ≡ reduced by.FourAtoms place (sems source.now values.old)) }
 {
@@ -108,7 +131,11 @@ pub(crate) fn four_atoms(source: &Source<'_>, values: &mut Vec<Value>, place: At
 }
 
 // `x`, `D[a, ..]`
-pub(crate) fn variable(source: &Source<'_>, values: &mut Vec<Value>, place: At) -> Result<(), OutOfMemory>
+pub(crate) fn variable(
+    source: &Source<'_>,
+    values: &mut Vec<Value>,
+    place: At,
+) -> Result<(), OutOfMemory>
     requires { AllFit (params by.Variable) (sems source.now values.old) }
     ensures { IfOk result (λ _. sems source.now values.new ≡ reduced by.Variable place (sems source.now values.old)) }
 {
@@ -119,7 +146,11 @@ pub(crate) fn variable(source: &Source<'_>, values: &mut Vec<Value>, place: At) 
 }
 
 // an integer
-pub(crate) fn literal(source: &Source<'_>, values: &mut Vec<Value>, place: At) -> Result<(), OutOfMemory>
+pub(crate) fn literal(
+    source: &Source<'_>,
+    values: &mut Vec<Value>,
+    place: At,
+) -> Result<(), OutOfMemory>
     requires { AllFit (params by.Literal) (sems source.now values.old) }
     ensures { IfOk result (λ _. sems source.now values.new ≡ reduced by.Literal place (sems source.now values.old)) }
 {
@@ -129,7 +160,11 @@ pub(crate) fn literal(source: &Source<'_>, values: &mut Vec<Value>, place: At) -
 }
 
 // `#k`
-pub(crate) fn numeral(source: &Source<'_>, values: &mut Vec<Value>, place: At) -> Result<(), OutOfMemory>
+pub(crate) fn numeral(
+    source: &Source<'_>,
+    values: &mut Vec<Value>,
+    place: At,
+) -> Result<(), OutOfMemory>
     requires { AllFit (params by.Numeral) (sems source.now values.old) }
     ensures { IfOk result (λ _. sems source.now values.new ≡ reduced by.Numeral place (sems source.now values.old)) }
 {
@@ -139,7 +174,11 @@ pub(crate) fn numeral(source: &Source<'_>, values: &mut Vec<Value>, place: At) -
 }
 
 // `con c[a, ..](t, ..)`
-pub(crate) fn construction(source: &Source<'_>, values: &mut Vec<Value>, place: At) -> Result<(), OutOfMemory>
+pub(crate) fn construction(
+    source: &Source<'_>,
+    values: &mut Vec<Value>,
+    place: At,
+) -> Result<(), OutOfMemory>
     requires { AllFit (params by.Construction) (sems source.now values.old) }
     ensures { IfOk result (λ _. sems source.now values.new ≡ reduced by.Construction place (sems source.now values.old)) }
 {
@@ -159,7 +198,11 @@ pub(crate) fn construction(source: &Source<'_>, values: &mut Vec<Value>, place: 
 }
 
 // `(t)`, `(t, u)`
-pub(crate) fn enclosed(source: &Source<'_>, values: &mut Vec<Value>, place: At) -> Result<(), OutOfMemory>
+pub(crate) fn enclosed(
+    source: &Source<'_>,
+    values: &mut Vec<Value>,
+    place: At,
+) -> Result<(), OutOfMemory>
     requires { AllFit (params by.Enclosed) (sems source.now values.old) }
     ensures { IfOk result (λ _. sems source.now values.new ≡ reduced by.Enclosed place (sems source.now values.old)) }
 {
@@ -173,7 +216,11 @@ pub(crate) fn enclosed(source: &Source<'_>, values: &mut Vec<Value>, place: At) 
 }
 
 // `<o>`
-pub(crate) fn quote(source: &Source<'_>, values: &mut Vec<Value>, place: At) -> Result<(), OutOfMemory>
+pub(crate) fn quote(
+    source: &Source<'_>,
+    values: &mut Vec<Value>,
+    place: At,
+) -> Result<(), OutOfMemory>
     requires { AllFit (params by.Quote) (sems source.now values.old) }
     ensures { IfOk result (λ _. sems source.now values.new ≡ reduced by.Quote place (sems source.now values.old)) }
 {
@@ -185,7 +232,11 @@ pub(crate) fn quote(source: &Source<'_>, values: &mut Vec<Value>, place: At) -> 
 }
 
 // `~u`
-pub(crate) fn splice(source: &Source<'_>, values: &mut Vec<Value>, place: At) -> Result<(), OutOfMemory>
+pub(crate) fn splice(
+    source: &Source<'_>,
+    values: &mut Vec<Value>,
+    place: At,
+) -> Result<(), OutOfMemory>
     requires { AllFit (params by.Splice) (sems source.now values.old) }
     ensures { IfOk result (λ _. sems source.now values.new ≡ reduced by.Splice place (sems source.now values.old)) }
 {
@@ -196,7 +247,11 @@ pub(crate) fn splice(source: &Source<'_>, values: &mut Vec<Value>, place: At) ->
 }
 
 // `^A`
-pub(crate) fn lift(source: &Source<'_>, values: &mut Vec<Value>, place: At) -> Result<(), OutOfMemory>
+pub(crate) fn lift(
+    source: &Source<'_>,
+    values: &mut Vec<Value>,
+    place: At,
+) -> Result<(), OutOfMemory>
     requires { AllFit (params by.Lift) (sems source.now values.old) }
     ensures { IfOk result (λ _. sems source.now values.new ≡ reduced by.Lift place (sems source.now values.old)) }
 {
@@ -207,7 +262,11 @@ pub(crate) fn lift(source: &Source<'_>, values: &mut Vec<Value>, place: At) -> R
 }
 
 // `_`
-pub(crate) fn hole(source: &Source<'_>, values: &mut Vec<Value>, place: At) -> Result<(), OutOfMemory>
+pub(crate) fn hole(
+    source: &Source<'_>,
+    values: &mut Vec<Value>,
+    place: At,
+) -> Result<(), OutOfMemory>
     requires { AllFit (params by.Hole) (sems source.now values.old) }
     ensures { IfOk result (λ _. sems source.now values.new ≡ reduced by.Hole place (sems source.now values.old)) }
 {
@@ -217,7 +276,11 @@ pub(crate) fn hole(source: &Source<'_>, values: &mut Vec<Value>, place: At) -> R
 }
 
 // `[a, ..]`
-pub(crate) fn brackets(source: &Source<'_>, values: &mut Vec<Value>, place: At) -> Result<(), OutOfMemory>
+pub(crate) fn brackets(
+    source: &Source<'_>,
+    values: &mut Vec<Value>,
+    place: At,
+) -> Result<(), OutOfMemory>
     requires { AllFit (params by.Brackets) (sems source.now values.old) }
     ensures { IfOk result (λ _. sems source.now values.new ≡ reduced by.Brackets place (sems source.now values.old)) }
 {

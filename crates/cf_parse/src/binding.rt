@@ -11,7 +11,11 @@ use cf_base::At;
 use cf_syntax::{OutOfMemory, Source};
 
 // `(x : t)`
-pub(crate) fn typed_binder(source: &Source<'_>, values: &mut Vec<Value>, place: At) -> Result<(), OutOfMemory>
+pub(crate) fn typed_binder(
+    source: &Source<'_>,
+    values: &mut Vec<Value>,
+    place: At,
+) -> Result<(), OutOfMemory>
     requires { AllFit (params by.TypedBinder) (sems source.now values.old) }
     ensures { IfOk result (λ _. sems source.now values.new ≡ reduced by.TypedBinder place (sems source.now values.old)) }
 {
@@ -30,7 +34,11 @@ pub(crate) fn typed_binder(source: &Source<'_>, values: &mut Vec<Value>, place: 
 }
 
 // `{x : t}`
-pub(crate) fn implicit_binder(source: &Source<'_>, values: &mut Vec<Value>, place: At) -> Result<(), OutOfMemory>
+pub(crate) fn implicit_binder(
+    source: &Source<'_>,
+    values: &mut Vec<Value>,
+    place: At,
+) -> Result<(), OutOfMemory>
     requires { AllFit (params by.ImplicitBinder) (sems source.now values.old) }
     ensures { IfOk result (λ _. sems source.now values.new ≡ reduced by.ImplicitBinder place (sems source.now values.old)) }
 {
@@ -49,7 +57,11 @@ pub(crate) fn implicit_binder(source: &Source<'_>, values: &mut Vec<Value>, plac
 }
 
 // `x`, without a type
-pub(crate) fn untyped_binder(source: &Source<'_>, values: &mut Vec<Value>, place: At) -> Result<(), OutOfMemory>
+pub(crate) fn untyped_binder(
+    source: &Source<'_>,
+    values: &mut Vec<Value>,
+    place: At,
+) -> Result<(), OutOfMemory>
     requires { AllFit (params by.UntypedBinder) (sems source.now values.old) }
     ensures { IfOk result (λ _. sems source.now values.new ≡ reduced by.UntypedBinder place (sems source.now values.old)) }
 {
@@ -64,7 +76,11 @@ pub(crate) fn untyped_binder(source: &Source<'_>, values: &mut Vec<Value>, place
 }
 
 // the binder `x`
-pub(crate) fn named(source: &Source<'_>, values: &mut Vec<Value>, place: At) -> Result<(), OutOfMemory>
+pub(crate) fn named(
+    source: &Source<'_>,
+    values: &mut Vec<Value>,
+    place: At,
+) -> Result<(), OutOfMemory>
     requires { AllFit (params by.Named) (sems source.now values.old) }
     ensures { IfOk result (λ _. sems source.now values.new ≡ reduced by.Named place (sems source.now values.old)) }
 {
@@ -75,7 +91,11 @@ pub(crate) fn named(source: &Source<'_>, values: &mut Vec<Value>, place: At) -> 
 }
 
 // the binder `_`
-pub(crate) fn unnamed(source: &Source<'_>, values: &mut Vec<Value>, place: At) -> Result<(), OutOfMemory>
+pub(crate) fn unnamed(
+    source: &Source<'_>,
+    values: &mut Vec<Value>,
+    place: At,
+) -> Result<(), OutOfMemory>
     requires { AllFit (params by.Unnamed) (sems source.now values.old) }
     ensures { IfOk result (λ _. sems source.now values.new ≡ reduced by.Unnamed place (sems source.now values.old)) }
 {

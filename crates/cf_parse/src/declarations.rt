@@ -16,7 +16,11 @@ use cf_syntax::{OutOfMemory, Source};
 use cf_tree::{CtorTree, Decl, Program, Tree};
 
 // `explicit;` and declarations.
-pub(crate) fn explicit_program(source: &Source<'_>, values: &mut Vec<Value>, place: At) -> Result<(), OutOfMemory>
+pub(crate) fn explicit_program(
+    source: &Source<'_>,
+    values: &mut Vec<Value>,
+    place: At,
+) -> Result<(), OutOfMemory>
     requires { AllFit (params by.Explicit) (sems source.now values.old) }
     ensures { IfOk result (λ _. sems source.now values.new ≡ reduced by.Explicit place (sems source.now values.old)) }
 {
@@ -34,7 +38,11 @@ pub(crate) fn explicit_program(source: &Source<'_>, values: &mut Vec<Value>, pla
 }
 
 // `use prelude;` and declarations.
-pub(crate) fn prelude_program(source: &Source<'_>, values: &mut Vec<Value>, place: At) -> Result<(), OutOfMemory>
+pub(crate) fn prelude_program(
+    source: &Source<'_>,
+    values: &mut Vec<Value>,
+    place: At,
+) -> Result<(), OutOfMemory>
     requires { AllFit (params by.Prelude) (sems source.now values.old) }
     ensures { IfOk result (λ _. sems source.now values.new ≡ reduced by.Prelude place (sems source.now values.old)) }
 {
@@ -53,7 +61,11 @@ pub(crate) fn prelude_program(source: &Source<'_>, values: &mut Vec<Value>, plac
 }
 
 // Declarations, with no head before them.
-pub(crate) fn plain_program(source: &Source<'_>, values: &mut Vec<Value>, place: At) -> Result<(), OutOfMemory>
+pub(crate) fn plain_program(
+    source: &Source<'_>,
+    values: &mut Vec<Value>,
+    place: At,
+) -> Result<(), OutOfMemory>
     requires { AllFit (params by.Plain) (sems source.now values.old) }
     ensures { IfOk result (λ _. sems source.now values.new ≡ reduced by.Plain place (sems source.now values.old)) }
 {
@@ -72,7 +84,11 @@ pub(crate) fn plain_program(source: &Source<'_>, values: &mut Vec<Value>, place:
 }
 
 // `data d (a : ValTy) .. := c (t, ..) | ..;`
-pub(crate) fn data(source: &Source<'_>, values: &mut Vec<Value>, place: At) -> Result<(), OutOfMemory>
+pub(crate) fn data(
+    source: &Source<'_>,
+    values: &mut Vec<Value>,
+    place: At,
+) -> Result<(), OutOfMemory>
     requires { AllFit (params by.Data) (sems source.now values.old) }
     ensures { IfOk result (λ _. sems source.now values.new ≡ reduced by.Data place (sems source.now values.old)) }
 {
@@ -121,7 +137,11 @@ fn texts(source: &Source<'_>, numbers: Vec<usize>) -> Result<Vec<String>, OutOfM
 }
 
 // `meta x : a := t;`
-pub(crate) fn meta(source: &Source<'_>, values: &mut Vec<Value>, place: At) -> Result<(), OutOfMemory>
+pub(crate) fn meta(
+    source: &Source<'_>,
+    values: &mut Vec<Value>,
+    place: At,
+) -> Result<(), OutOfMemory>
     requires { AllFit (params by.Meta) (sems source.now values.old) }
     ensures { IfOk result (λ _. sems source.now values.new ≡ reduced by.Meta place (sems source.now values.old)) }
 {
@@ -138,7 +158,12 @@ pub(crate) fn meta(source: &Source<'_>, values: &mut Vec<Value>, place: At) -> R
 }
 
 // A definition at the meta level: its name, its type and what it stands for.
-fn meta_of(source: &Source<'_>, name: usize, ty: Box<Tree>, body: Box<Tree>) -> Result<Box<Decl>, OutOfMemory>
+fn meta_of(
+    source: &Source<'_>,
+    name: usize,
+    ty: Box<Tree>,
+    body: Box<Tree>,
+) -> Result<Box<Decl>, OutOfMemory>
     ensures { IfOk result (λ d. (p : places.At) (k l m n : Sem) → Fits kind.Name (token_of source.now name) → decl_sem d.value ≡ meant.meta_decl p (k ∷ token_of source.now name ∷ l ∷ term_of ty.value ∷ m ∷ term_of body.value ∷ n ∷ [])) }
 {
     let decl = Decl::MetaD {
@@ -152,7 +177,11 @@ fn meta_of(source: &Source<'_>, name: usize, ty: Box<Tree>, body: Box<Tree>) -> 
 }
 
 // `x : a := t;`
-pub(crate) fn object(source: &Source<'_>, values: &mut Vec<Value>, place: At) -> Result<(), OutOfMemory>
+pub(crate) fn object(
+    source: &Source<'_>,
+    values: &mut Vec<Value>,
+    place: At,
+) -> Result<(), OutOfMemory>
     requires { AllFit (params by.Object) (sems source.now values.old) }
     ensures { IfOk result (λ _. sems source.now values.new ≡ reduced by.Object place (sems source.now values.old)) }
 {
@@ -187,7 +216,11 @@ fn object_of(
 }
 
 // `(a : ValTy)`: a parameter is its name.
-pub(crate) fn parameter(source: &Source<'_>, values: &mut Vec<Value>, place: At) -> Result<(), OutOfMemory>
+pub(crate) fn parameter(
+    source: &Source<'_>,
+    values: &mut Vec<Value>,
+    place: At,
+) -> Result<(), OutOfMemory>
     requires { AllFit (params by.Param) (sems source.now values.old) }
     ensures { IfOk result (λ _. sems source.now values.new ≡ reduced by.Param place (sems source.now values.old)) }
 {
@@ -201,7 +234,11 @@ pub(crate) fn parameter(source: &Source<'_>, values: &mut Vec<Value>, place: At)
 }
 
 // `c (t, ..)`: a constructor.
-pub(crate) fn constructor(source: &Source<'_>, values: &mut Vec<Value>, place: At) -> Result<(), OutOfMemory>
+pub(crate) fn constructor(
+    source: &Source<'_>,
+    values: &mut Vec<Value>,
+    place: At,
+) -> Result<(), OutOfMemory>
     requires { AllFit (params by.Ctor) (sems source.now values.old) }
     ensures { IfOk result (λ _. sems source.now values.new ≡ reduced by.Ctor place (sems source.now values.old)) }
 {
@@ -215,7 +252,11 @@ pub(crate) fn constructor(source: &Source<'_>, values: &mut Vec<Value>, place: A
 }
 
 // A constructor: its name and the types of its fields, the last one first.
-fn ctor_of(source: &Source<'_>, name: usize, fields: Vec<Tree>) -> Result<Box<CtorTree>, OutOfMemory>
+fn ctor_of(
+    source: &Source<'_>,
+    name: usize,
+    fields: Vec<Tree>,
+) -> Result<Box<CtorTree>, OutOfMemory>
     ensures { IfOk result (λ c. (p : places.At) (k l : Sem) → Fits kind.Name (token_of source.now name) → ctor_sem c.value ≡ meant.a_ctor p (token_of source.now name ∷ k ∷ listed (map term_of (reverse fields.items)) ∷ l ∷ [])) }
 {
     let mut fields = fields;

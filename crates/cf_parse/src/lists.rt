@@ -10,7 +10,11 @@ use cf_base::At;
 use cf_syntax::{OutOfMemory, Source};
 
 // A declaration, and more of them.
-pub(crate) fn first_declaration(source: &Source<'_>, values: &mut Vec<Value>, place: At) -> Result<(), OutOfMemory>
+pub(crate) fn first_declaration(
+    source: &Source<'_>,
+    values: &mut Vec<Value>,
+    place: At,
+) -> Result<(), OutOfMemory>
     requires { AllFit (params by.FirstDecl) (sems source.now values.old) }
     ensures { IfOk result (λ _. sems source.now values.new ≡ reduced by.FirstDecl place (sems source.now values.old)) }
 {
@@ -22,7 +26,11 @@ pub(crate) fn first_declaration(source: &Source<'_>, values: &mut Vec<Value>, pl
 }
 
 // A parameter, and more of them.
-pub(crate) fn first_parameter(source: &Source<'_>, values: &mut Vec<Value>, place: At) -> Result<(), OutOfMemory>
+pub(crate) fn first_parameter(
+    source: &Source<'_>,
+    values: &mut Vec<Value>,
+    place: At,
+) -> Result<(), OutOfMemory>
     requires { AllFit (params by.FirstParam) (sems source.now values.old) }
     ensures { IfOk result (λ _. sems source.now values.new ≡ reduced by.FirstParam place (sems source.now values.old)) }
 {
@@ -33,7 +41,11 @@ pub(crate) fn first_parameter(source: &Source<'_>, values: &mut Vec<Value>, plac
 }
 
 // A constructor, and more of them.
-pub(crate) fn first_constructor(source: &Source<'_>, values: &mut Vec<Value>, place: At) -> Result<(), OutOfMemory>
+pub(crate) fn first_constructor(
+    source: &Source<'_>,
+    values: &mut Vec<Value>,
+    place: At,
+) -> Result<(), OutOfMemory>
     requires { AllFit (params by.FirstCtor) (sems source.now values.old) }
     ensures { IfOk result (λ _. sems source.now values.new ≡ reduced by.FirstCtor place (sems source.now values.old)) }
 {
@@ -45,7 +57,11 @@ pub(crate) fn first_constructor(source: &Source<'_>, values: &mut Vec<Value>, pl
 }
 
 // `| c`: a constructor behind a bar, and more of them.
-pub(crate) fn next_constructor(source: &Source<'_>, values: &mut Vec<Value>, place: At) -> Result<(), OutOfMemory>
+pub(crate) fn next_constructor(
+    source: &Source<'_>,
+    values: &mut Vec<Value>,
+    place: At,
+) -> Result<(), OutOfMemory>
     requires { AllFit (params by.NextCtor) (sems source.now values.old) }
     ensures { IfOk result (λ _. sems source.now values.new ≡ reduced by.NextCtor place (sems source.now values.old)) }
 {
@@ -58,7 +74,11 @@ pub(crate) fn next_constructor(source: &Source<'_>, values: &mut Vec<Value>, pla
 }
 
 // A term, and more of them.
-pub(crate) fn first_term(source: &Source<'_>, values: &mut Vec<Value>, place: At) -> Result<(), OutOfMemory>
+pub(crate) fn first_term(
+    source: &Source<'_>,
+    values: &mut Vec<Value>,
+    place: At,
+) -> Result<(), OutOfMemory>
     requires { AllFit (params by.FirstTerm) (sems source.now values.old) }
     ensures { IfOk result (λ _. sems source.now values.new ≡ reduced by.FirstTerm place (sems source.now values.old)) }
 {
@@ -69,7 +89,11 @@ pub(crate) fn first_term(source: &Source<'_>, values: &mut Vec<Value>, place: At
 }
 
 // `, t`: a term behind a comma, and more of them.
-pub(crate) fn next_term(source: &Source<'_>, values: &mut Vec<Value>, place: At) -> Result<(), OutOfMemory>
+pub(crate) fn next_term(
+    source: &Source<'_>,
+    values: &mut Vec<Value>,
+    place: At,
+) -> Result<(), OutOfMemory>
     requires { AllFit (params by.NextTerm) (sems source.now values.old) }
     ensures { IfOk result (λ _. sems source.now values.new ≡ reduced by.NextTerm place (sems source.now values.old)) }
 {
@@ -81,7 +105,11 @@ pub(crate) fn next_term(source: &Source<'_>, values: &mut Vec<Value>, place: At)
 }
 
 // A branch, and more of them.
-pub(crate) fn first_branch(source: &Source<'_>, values: &mut Vec<Value>, place: At) -> Result<(), OutOfMemory>
+pub(crate) fn first_branch(
+    source: &Source<'_>,
+    values: &mut Vec<Value>,
+    place: At,
+) -> Result<(), OutOfMemory>
     requires { AllFit (params by.FirstBranch) (sems source.now values.old) }
     ensures { IfOk result (λ _. sems source.now values.new ≡ reduced by.FirstBranch place (sems source.now values.old)) }
 {
@@ -93,7 +121,11 @@ pub(crate) fn first_branch(source: &Source<'_>, values: &mut Vec<Value>, place: 
 }
 
 // `| c x .. . t`: a branch behind a bar, and more of them.
-pub(crate) fn next_branch(source: &Source<'_>, values: &mut Vec<Value>, place: At) -> Result<(), OutOfMemory>
+pub(crate) fn next_branch(
+    source: &Source<'_>,
+    values: &mut Vec<Value>,
+    place: At,
+) -> Result<(), OutOfMemory>
     requires { AllFit (params by.NextBranch) (sems source.now values.old) }
     ensures { IfOk result (λ _. sems source.now values.new ≡ reduced by.NextBranch place (sems source.now values.old)) }
 {
@@ -106,7 +138,11 @@ pub(crate) fn next_branch(source: &Source<'_>, values: &mut Vec<Value>, place: A
 }
 
 // An argument, and more of them.
-pub(crate) fn first_argument(source: &Source<'_>, values: &mut Vec<Value>, place: At) -> Result<(), OutOfMemory>
+pub(crate) fn first_argument(
+    source: &Source<'_>,
+    values: &mut Vec<Value>,
+    place: At,
+) -> Result<(), OutOfMemory>
     requires { AllFit (params by.FirstArgument) (sems source.now values.old) }
     ensures { IfOk result (λ _. sems source.now values.new ≡ reduced by.FirstArgument place (sems source.now values.old)) }
 {
@@ -118,7 +154,11 @@ pub(crate) fn first_argument(source: &Source<'_>, values: &mut Vec<Value>, place
 }
 
 // A binder, and more of them.
-pub(crate) fn first_binder(source: &Source<'_>, values: &mut Vec<Value>, place: At) -> Result<(), OutOfMemory>
+pub(crate) fn first_binder(
+    source: &Source<'_>,
+    values: &mut Vec<Value>,
+    place: At,
+) -> Result<(), OutOfMemory>
     requires { AllFit (params by.FirstBinder) (sems source.now values.old) }
     ensures { IfOk result (λ _. sems source.now values.new ≡ reduced by.FirstBinder place (sems source.now values.old)) }
 {

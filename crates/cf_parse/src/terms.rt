@@ -248,7 +248,11 @@ fn arrow_tree(
 }
 
 // `\x. t`
-pub(crate) fn lambda(source: &Source<'_>, values: &mut Vec<Value>, place: At) -> Result<(), OutOfMemory>
+pub(crate) fn lambda(
+    source: &Source<'_>,
+    values: &mut Vec<Value>,
+    place: At,
+) -> Result<(), OutOfMemory>
     requires { AllFit (params by.Lambda) (sems source.now values.old) }
     ensures { IfOk result (λ _. sems source.now values.new ≡ reduced by.Lambda place (sems source.now values.old)) }
 {
@@ -262,7 +266,11 @@ pub(crate) fn lambda(source: &Source<'_>, values: &mut Vec<Value>, place: At) ->
 }
 
 // `fn (x : a). t`
-pub(crate) fn function(source: &Source<'_>, values: &mut Vec<Value>, place: At) -> Result<(), OutOfMemory>
+pub(crate) fn function(
+    source: &Source<'_>,
+    values: &mut Vec<Value>,
+    place: At,
+) -> Result<(), OutOfMemory>
     requires { AllFit (params by.Function) (sems source.now values.old) }
     ensures { IfOk result (λ _. sems source.now values.new ≡ reduced by.Function place (sems source.now values.old)) }
 {
@@ -276,7 +284,11 @@ pub(crate) fn function(source: &Source<'_>, values: &mut Vec<Value>, place: At) 
 }
 
 // `Pi (x : a) -> b`
-pub(crate) fn function_type(source: &Source<'_>, values: &mut Vec<Value>, place: At) -> Result<(), OutOfMemory>
+pub(crate) fn function_type(
+    source: &Source<'_>,
+    values: &mut Vec<Value>,
+    place: At,
+) -> Result<(), OutOfMemory>
     requires { AllFit (params by.Pi) (sems source.now values.old) }
     ensures { IfOk result (λ _. sems source.now values.new ≡ reduced by.Pi place (sems source.now values.old)) }
 {
@@ -290,7 +302,11 @@ pub(crate) fn function_type(source: &Source<'_>, values: &mut Vec<Value>, place:
 }
 
 // `mlet x : a := t; u`
-pub(crate) fn meta_let(source: &Source<'_>, values: &mut Vec<Value>, place: At) -> Result<(), OutOfMemory>
+pub(crate) fn meta_let(
+    source: &Source<'_>,
+    values: &mut Vec<Value>,
+    place: At,
+) -> Result<(), OutOfMemory>
     requires { AllFit (params by.Let) (sems source.now values.old) }
     ensures { IfOk result (λ _. sems source.now values.new ≡ reduced by.Let place (sems source.now values.old)) }
 {
@@ -308,7 +324,11 @@ pub(crate) fn meta_let(source: &Source<'_>, values: &mut Vec<Value>, place: At) 
 }
 
 // `let x : a := t; u`
-pub(crate) fn value_let(source: &Source<'_>, values: &mut Vec<Value>, place: At) -> Result<(), OutOfMemory>
+pub(crate) fn value_let(
+    source: &Source<'_>,
+    values: &mut Vec<Value>,
+    place: At,
+) -> Result<(), OutOfMemory>
     requires { AllFit (params by.LetV) (sems source.now values.old) }
     ensures { IfOk result (λ _. sems source.now values.new ≡ reduced by.LetV place (sems source.now values.old)) }
 {
@@ -326,7 +346,11 @@ pub(crate) fn value_let(source: &Source<'_>, values: &mut Vec<Value>, place: At)
 }
 
 // `letrec x : a := t; u`
-pub(crate) fn recursion(source: &Source<'_>, values: &mut Vec<Value>, place: At) -> Result<(), OutOfMemory>
+pub(crate) fn recursion(
+    source: &Source<'_>,
+    values: &mut Vec<Value>,
+    place: At,
+) -> Result<(), OutOfMemory>
     requires { AllFit (params by.LetRec) (sems source.now values.old) }
     ensures { IfOk result (λ _. sems source.now values.new ≡ reduced by.LetRec place (sems source.now values.old)) }
 {
@@ -344,7 +368,11 @@ pub(crate) fn recursion(source: &Source<'_>, values: &mut Vec<Value>, place: At)
 }
 
 // `Sig (x : a), b`
-pub(crate) fn pair_type(source: &Source<'_>, values: &mut Vec<Value>, place: At) -> Result<(), OutOfMemory>
+pub(crate) fn pair_type(
+    source: &Source<'_>,
+    values: &mut Vec<Value>,
+    place: At,
+) -> Result<(), OutOfMemory>
     requires { AllFit (params by.Sig) (sems source.now values.old) }
     ensures { IfOk result (λ _. sems source.now values.new ≡ reduced by.Sig place (sems source.now values.old)) }
 {
@@ -362,7 +390,11 @@ pub(crate) fn pair_type(source: &Source<'_>, values: &mut Vec<Value>, place: At)
 }
 
 // `case t : a of { .. }`
-pub(crate) fn cases(source: &Source<'_>, values: &mut Vec<Value>, place: At) -> Result<(), OutOfMemory>
+pub(crate) fn cases(
+    source: &Source<'_>,
+    values: &mut Vec<Value>,
+    place: At,
+) -> Result<(), OutOfMemory>
     requires { AllFit (params by.Case) (sems source.now values.old) }
     ensures { IfOk result (λ _. sems source.now values.new ≡ reduced by.Case place (sems source.now values.old)) }
 {
@@ -379,7 +411,11 @@ pub(crate) fn cases(source: &Source<'_>, values: &mut Vec<Value>, place: At) -> 
 }
 
 // `c x .. . t`
-pub(crate) fn branch(source: &Source<'_>, values: &mut Vec<Value>, place: At) -> Result<(), OutOfMemory>
+pub(crate) fn branch(
+    source: &Source<'_>,
+    values: &mut Vec<Value>,
+    place: At,
+) -> Result<(), OutOfMemory>
     requires { AllFit (params by.Branch) (sems source.now values.old) }
     ensures { IfOk result (λ _. sems source.now values.new ≡ reduced by.Branch place (sems source.now values.old)) }
 {
@@ -393,7 +429,11 @@ pub(crate) fn branch(source: &Source<'_>, values: &mut Vec<Value>, place: At) ->
 }
 
 // a term, and maybe an arrow behind it
-pub(crate) fn arrow(source: &Source<'_>, values: &mut Vec<Value>, place: At) -> Result<(), OutOfMemory>
+pub(crate) fn arrow(
+    source: &Source<'_>,
+    values: &mut Vec<Value>,
+    place: At,
+) -> Result<(), OutOfMemory>
     requires { AllFit (params by.Arrow) (sems source.now values.old) }
     ensures { IfOk result (λ _. sems source.now values.new ≡ reduced by.Arrow place (sems source.now values.old)) }
 {
@@ -405,7 +445,11 @@ pub(crate) fn arrow(source: &Source<'_>, values: &mut Vec<Value>, place: At) -> 
 }
 
 // `-> b`
-pub(crate) fn onto_meta(source: &Source<'_>, values: &mut Vec<Value>, place: At) -> Result<(), OutOfMemory>
+pub(crate) fn onto_meta(
+    source: &Source<'_>,
+    values: &mut Vec<Value>,
+    place: At,
+) -> Result<(), OutOfMemory>
     requires { AllFit (params by.OntoMeta) (sems source.now values.old) }
     ensures { IfOk result (λ _. sems source.now values.new ≡ reduced by.OntoMeta place (sems source.now values.old)) }
 {
@@ -416,7 +460,11 @@ pub(crate) fn onto_meta(source: &Source<'_>, values: &mut Vec<Value>, place: At)
 }
 
 // `=> b`
-pub(crate) fn onto_object(source: &Source<'_>, values: &mut Vec<Value>, place: At) -> Result<(), OutOfMemory>
+pub(crate) fn onto_object(
+    source: &Source<'_>,
+    values: &mut Vec<Value>,
+    place: At,
+) -> Result<(), OutOfMemory>
     requires { AllFit (params by.OntoObject) (sems source.now values.old) }
     ensures { IfOk result (λ _. sems source.now values.new ≡ reduced by.OntoObject place (sems source.now values.old)) }
 {
