@@ -14,6 +14,8 @@ use Rattle.cf_grammar.specs.declared.phrases.Symbol.{Symbol}
 use Rattle.cf_grammar.specs.declared.phrases.Symbol.TheVariants.{Is as is, Phrase as a}
 use Rattle.cf_grammar.proofs.Reached.{one_choice}
 use Rattle.cf_syntax.proofs.Cases.{none_some, clash}
+use Rattle.cf_syntax.proofs.Closing.{closed, closed_behind, closed_opened, leads_phrase, leads_token, never_ends, right_of, some, some_opened}
+use Rattle.cf_syntax.specs.Checks.{AllInRange, one}
 use Rattle.cf_parse.specs.Derivation.{Cst, leaf, branch, Csts, nil, cons, Parses, ParsesAll}
 use Rattle.cf_parse.specs.Derivation as derivation
 use Rattle.cf_parse.specs.Meaning.{value, values}

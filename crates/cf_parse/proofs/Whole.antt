@@ -1,5 +1,5 @@
 -- The program that tokens within the limits are.
-use Rattle.std.proofs.Common.{◌≡◌, refl, ap, sym, arith, ℕ, zero, suc, List, [], ◌∷◌, length, Some, None}
+use Rattle.std.proofs.Common.{◌≡◌, refl, ap, sym, arith, ℕ, zero, suc, Bool, List, [], ◌∷◌, length, Some, None}
 use Rattle.cf_base.specs.declared.at.At.{At}
 use Rattle.cf_tree.specs.Tree as trees
 use Rattle.cf_grammar.specs.Grammar.{IsProgram, Takes, start}

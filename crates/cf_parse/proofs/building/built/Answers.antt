@@ -13,7 +13,7 @@ pub loop-step-init : goal.loop-step-init
 loop-step-init c =
     let s = c.args.source.now in
     let ks = tokens_of s.tokens.now in
-    subst (Stage s.prelude c.args.steps.items ks c.args.steps.items c.count.result) (sym (ap (λ l. map (sem s) (reverse l)) c.new-values.ensures.items)) (begun c.count.result c.requires (sym c.count.ensures))
+    subst (Stage s.prelude c.args.steps.items ks c.args.steps.items c.count-at.result) (sym (ap (λ l. map (sem s) (reverse l)) c.new-values.ensures.items)) (begun c.count-at.result c.requires (sym c.count-at.ensures))
 
 pub overflow_sub-at : goal.overflow_sub-at
 overflow_sub-at c = (took c.loop-step.left.items c.pop.new.self.items c.requires (c.in-Some.ensures.items ∙ ap (λ s. c.pop.new.self.items ++ s ∷ []) c.in-Take.is) c.loop-step.invariant).some
