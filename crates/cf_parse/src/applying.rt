@@ -9,7 +9,7 @@ ghost use Rattle.cf_tree.specs.declared.heads.Head.TheVariants as head;
 
 use crate::parts::Argument;
 use crate::taking::take_term;
-use crate::values::{Value, pop, push};
+use crate::values::{Value, discard, pop, push};
 use cf_base::At;
 use cf_syntax::{OutOfMemory, Source};
 use cf_tree::{Node, Tree};
@@ -129,9 +129,9 @@ pub(crate) fn implicit_argument(
     requires { AllFit (params by.ImplicitArgument) (sems source.now values.old) }
     ensures { IfOk result (λ _. sems source.now values.new ≡ reduced by.ImplicitArgument place (sems source.now values.old)) }
 {
-    pop(values);
+    discard(values);
     let term = take_term(values, source.alloc)?;
-    pop(values);
+    discard(values);
     let argument = Argument {
         implicit: true,
         term,
@@ -161,7 +161,7 @@ pub(crate) fn behind(
     requires { AllFit (params by.Behind) (sems source.now values.old) }
     ensures { IfOk result (λ _. sems source.now values.new ≡ reduced by.Behind place (sems source.now values.old)) }
 {
-    pop(values);
+    discard(values);
     let part = pop(values);
     push(values, part)?;
     Ok(())

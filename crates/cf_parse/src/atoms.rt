@@ -14,7 +14,7 @@ use crate::taking::{
     put_form, take_brackets, take_named, take_optional_term, take_term, take_terms, take_token,
     take_word,
 };
-use crate::values::{Value, pop, push};
+use crate::values::{Value, discard, push};
 use crate::words::{with_four, with_none, with_one, with_three, with_two};
 use cf_base::At;
 use cf_syntax::{OutOfMemory, Source};
@@ -182,12 +182,12 @@ pub(crate) fn construction(
     requires { AllFit (params by.Construction) (sems source.now values.old) }
     ensures { IfOk result (λ _. sems source.now values.new ≡ reduced by.Construction place (sems source.now values.old)) }
 {
-    pop(values);
+    discard(values);
     let name = take_named(source, values)?;
     let params = take_brackets(values);
-    pop(values);
+    discard(values);
     let fields = take_terms(values, source.alloc)?;
-    pop(values);
+    discard(values);
     let node = Node::Con {
         name,
         params,
@@ -206,10 +206,10 @@ pub(crate) fn enclosed(
     requires { AllFit (params by.Enclosed) (sems source.now values.old) }
     ensures { IfOk result (λ _. sems source.now values.new ≡ reduced by.Enclosed place (sems source.now values.old)) }
 {
-    pop(values);
+    discard(values);
     let first = take_term(values, source.alloc)?;
     let second = take_optional_term(values);
-    pop(values);
+    discard(values);
     let t = parenthesized(source.alloc, place, first, second)?;
     push(values, Value::Term(t))?;
     Ok(())
@@ -224,9 +224,9 @@ pub(crate) fn quote(
     requires { AllFit (params by.Quote) (sems source.now values.old) }
     ensures { IfOk result (λ _. sems source.now values.new ≡ reduced by.Quote place (sems source.now values.old)) }
 {
-    pop(values);
+    discard(values);
     let t = take_term(values, source.alloc)?;
-    pop(values);
+    discard(values);
     put_form(values, source.alloc, place, Node::Quote(t))?;
     Ok(())
 }
@@ -240,7 +240,7 @@ pub(crate) fn splice(
     requires { AllFit (params by.Splice) (sems source.now values.old) }
     ensures { IfOk result (λ _. sems source.now values.new ≡ reduced by.Splice place (sems source.now values.old)) }
 {
-    pop(values);
+    discard(values);
     let t = take_term(values, source.alloc)?;
     put_form(values, source.alloc, place, Node::Splice(t))?;
     Ok(())
@@ -255,7 +255,7 @@ pub(crate) fn lift(
     requires { AllFit (params by.Lift) (sems source.now values.old) }
     ensures { IfOk result (λ _. sems source.now values.new ≡ reduced by.Lift place (sems source.now values.old)) }
 {
-    pop(values);
+    discard(values);
     let t = take_term(values, source.alloc)?;
     put_form(values, source.alloc, place, Node::Lift(t))?;
     Ok(())
@@ -270,7 +270,7 @@ pub(crate) fn hole(
     requires { AllFit (params by.Hole) (sems source.now values.old) }
     ensures { IfOk result (λ _. sems source.now values.new ≡ reduced by.Hole place (sems source.now values.old)) }
 {
-    pop(values);
+    discard(values);
     put_form(values, source.alloc, place, Node::Hole)?;
     Ok(())
 }
@@ -284,9 +284,9 @@ pub(crate) fn brackets(
     requires { AllFit (params by.Brackets) (sems source.now values.old) }
     ensures { IfOk result (λ _. sems source.now values.new ≡ reduced by.Brackets place (sems source.now values.old)) }
 {
-    pop(values);
+    discard(values);
     let terms = take_terms(values, source.alloc)?;
-    pop(values);
+    discard(values);
     push(values, Value::Bracketed(terms))?;
     Ok(())
 }

@@ -6,7 +6,8 @@ ghost use Rattle.cf_parse.specs.Kinds.{AllFit, params};
 ghost use Rattle.cf_parse.specs.Values.{sems};
 
 use crate::parts::Domain;
-use crate::values::{Value, pop, push};
+use crate::taking::take_token;
+use crate::values::{Value, discard, pop, push};
 use cf_base::At;
 use cf_syntax::{OutOfMemory, Source};
 
@@ -19,11 +20,11 @@ pub(crate) fn typed_binder(
     requires { AllFit (params by.TypedBinder) (sems source.now values.old) }
     ensures { IfOk result (λ _. sems source.now values.new ≡ reduced by.TypedBinder place (sems source.now values.old)) }
 {
-    pop(values);
+    discard(values);
     let binder = pop(values).binder();
-    pop(values);
+    discard(values);
     let ty = pop(values).term(source.alloc)?;
-    pop(values);
+    discard(values);
     let domain = Domain {
         implicit: false,
         binder,
@@ -42,11 +43,11 @@ pub(crate) fn implicit_binder(
     requires { AllFit (params by.ImplicitBinder) (sems source.now values.old) }
     ensures { IfOk result (λ _. sems source.now values.new ≡ reduced by.ImplicitBinder place (sems source.now values.old)) }
 {
-    pop(values);
+    discard(values);
     let binder = pop(values).binder();
-    pop(values);
+    discard(values);
     let ty = pop(values).term(source.alloc)?;
-    pop(values);
+    discard(values);
     let domain = Domain {
         implicit: true,
         binder,
@@ -84,7 +85,7 @@ pub(crate) fn named(
     requires { AllFit (params by.Named) (sems source.now values.old) }
     ensures { IfOk result (λ _. sems source.now values.new ≡ reduced by.Named place (sems source.now values.old)) }
 {
-    let at = pop(values).token();
+    let at = take_token(values);
     let name = source.text(at)?;
     push(values, Value::Binder(Some(name)))?;
     Ok(())
@@ -99,7 +100,7 @@ pub(crate) fn unnamed(
     requires { AllFit (params by.Unnamed) (sems source.now values.old) }
     ensures { IfOk result (λ _. sems source.now values.new ≡ reduced by.Unnamed place (sems source.now values.old)) }
 {
-    pop(values);
+    discard(values);
     push(values, Value::Binder(None))?;
     Ok(())
 }

@@ -10,7 +10,8 @@ ghost use Rattle.cf_parse.specs.Meaning.{Sem, names_in};
 ghost use Rattle.cf_parse.specs.Meaning as meant;
 ghost use Rattle.cf_parse.specs.Values.{ctor_sem, decl_sem, listed, sems, term_of, token_of};
 
-use crate::values::{Value, pop, push};
+use crate::taking::take_token;
+use crate::values::{Value, discard, pop, push};
 use cf_base::At;
 use cf_syntax::{OutOfMemory, Source};
 use cf_tree::{CtorTree, Decl, Program, Tree};
@@ -24,8 +25,8 @@ pub(crate) fn explicit_program(
     requires { AllFit (params by.Explicit) (sems source.now values.old) }
     ensures { IfOk result (λ _. sems source.now values.new ≡ reduced by.Explicit place (sems source.now values.old)) }
 {
-    pop(values);
-    pop(values);
+    discard(values);
+    discard(values);
     let mut decls = pop(values).decls(source.alloc)?;
     decls.reverse();
     let program = Program {
@@ -46,9 +47,9 @@ pub(crate) fn prelude_program(
     requires { AllFit (params by.Prelude) (sems source.now values.old) }
     ensures { IfOk result (λ _. sems source.now values.new ≡ reduced by.Prelude place (sems source.now values.old)) }
 {
-    pop(values);
-    pop(values);
-    pop(values);
+    discard(values);
+    discard(values);
+    discard(values);
     let mut decls = pop(values).decls(source.alloc)?;
     decls.reverse();
     let program = Program {
@@ -92,12 +93,12 @@ pub(crate) fn data(
     requires { AllFit (params by.Data) (sems source.now values.old) }
     ensures { IfOk result (λ _. sems source.now values.new ≡ reduced by.Data place (sems source.now values.old)) }
 {
-    pop(values);
-    let name = pop(values).token();
+    discard(values);
+    let name = take_token(values);
     let params = pop(values).names(source.alloc)?;
-    pop(values);
+    discard(values);
     let ctors = pop(values).ctors(source.alloc)?;
-    pop(values);
+    discard(values);
     let decl = data_of(source, name, params, ctors)?;
     push(values, Value::Decl(decl))?;
     Ok(())
@@ -145,13 +146,13 @@ pub(crate) fn meta(
     requires { AllFit (params by.Meta) (sems source.now values.old) }
     ensures { IfOk result (λ _. sems source.now values.new ≡ reduced by.Meta place (sems source.now values.old)) }
 {
-    pop(values);
-    let name = pop(values).token();
-    pop(values);
+    discard(values);
+    let name = take_token(values);
+    discard(values);
     let ty = pop(values).term(source.alloc)?;
-    pop(values);
+    discard(values);
     let body = pop(values).term(source.alloc)?;
-    pop(values);
+    discard(values);
     let decl = meta_of(source, name, ty, body)?;
     push(values, Value::Decl(decl))?;
     Ok(())
@@ -185,12 +186,12 @@ pub(crate) fn object(
     requires { AllFit (params by.Object) (sems source.now values.old) }
     ensures { IfOk result (λ _. sems source.now values.new ≡ reduced by.Object place (sems source.now values.old)) }
 {
-    let name = pop(values).token();
-    pop(values);
+    let name = take_token(values);
+    discard(values);
     let ty = pop(values).term(source.alloc)?;
-    pop(values);
+    discard(values);
     let body = pop(values).term(source.alloc)?;
-    pop(values);
+    discard(values);
     let decl = object_of(source, name, ty, body)?;
     push(values, Value::Decl(decl))?;
     Ok(())
@@ -224,11 +225,11 @@ pub(crate) fn parameter(
     requires { AllFit (params by.Param) (sems source.now values.old) }
     ensures { IfOk result (λ _. sems source.now values.new ≡ reduced by.Param place (sems source.now values.old)) }
 {
-    pop(values);
-    let name = pop(values).token();
-    pop(values);
-    pop(values);
-    pop(values);
+    discard(values);
+    let name = take_token(values);
+    discard(values);
+    discard(values);
+    discard(values);
     push(values, Value::Token(name))?;
     Ok(())
 }
@@ -242,10 +243,10 @@ pub(crate) fn constructor(
     requires { AllFit (params by.Ctor) (sems source.now values.old) }
     ensures { IfOk result (λ _. sems source.now values.new ≡ reduced by.Ctor place (sems source.now values.old)) }
 {
-    let name = pop(values).token();
-    pop(values);
+    let name = take_token(values);
+    discard(values);
     let fields = pop(values).terms(source.alloc)?;
-    pop(values);
+    discard(values);
     let ctor = ctor_of(source, name, fields)?;
     push(values, Value::Ctor(ctor))?;
     Ok(())

@@ -5,7 +5,8 @@ ghost use Rattle.cf_parse.specs.Evaluation.{reduced};
 ghost use Rattle.cf_parse.specs.Kinds.{AllFit, params};
 ghost use Rattle.cf_parse.specs.Values.{sems};
 
-use crate::values::{Value, pop, push};
+use crate::taking::take_token;
+use crate::values::{Value, discard, pop, push};
 use cf_base::At;
 use cf_syntax::{OutOfMemory, Source};
 
@@ -34,7 +35,7 @@ pub(crate) fn first_parameter(
     requires { AllFit (params by.FirstParam) (sems source.now values.old) }
     ensures { IfOk result (λ _. sems source.now values.new ≡ reduced by.FirstParam place (sems source.now values.old)) }
 {
-    let first = pop(values).token();
+    let first = take_token(values);
     let others = pop(values).names(source.alloc)?;
     push(values, Value::Tokens(first, others))?;
     Ok(())
@@ -65,7 +66,7 @@ pub(crate) fn next_constructor(
     requires { AllFit (params by.NextCtor) (sems source.now values.old) }
     ensures { IfOk result (λ _. sems source.now values.new ≡ reduced by.NextCtor place (sems source.now values.old)) }
 {
-    pop(values);
+    discard(values);
     if let Value::Ctor(first) = pop(values) {
         let others = pop(values).ctors(source.alloc)?;
         push(values, Value::Ctors(first, others))?;
@@ -97,7 +98,7 @@ pub(crate) fn next_term(
     requires { AllFit (params by.NextTerm) (sems source.now values.old) }
     ensures { IfOk result (λ _. sems source.now values.new ≡ reduced by.NextTerm place (sems source.now values.old)) }
 {
-    pop(values);
+    discard(values);
     let first = pop(values).term(source.alloc)?;
     let others = pop(values).terms(source.alloc)?;
     push(values, Value::Terms(first, others))?;
@@ -129,7 +130,7 @@ pub(crate) fn next_branch(
     requires { AllFit (params by.NextBranch) (sems source.now values.old) }
     ensures { IfOk result (λ _. sems source.now values.new ≡ reduced by.NextBranch place (sems source.now values.old)) }
 {
-    pop(values);
+    discard(values);
     if let Value::Arm(first) = pop(values) {
         let others = pop(values).arms(source.alloc)?;
         push(values, Value::Arms(first, others))?;

@@ -12,7 +12,7 @@ ghost use Rattle.cf_parse.specs.Values.{arm_of, binder_sem, domain_of, optional_
 
 use crate::parts::{Domain, or_missing};
 use crate::taking::take_named;
-use crate::values::{Value, pop, push};
+use crate::values::{Value, discard, pop, push};
 use cf_base::At;
 use cf_syntax::{OutOfMemory, Source};
 use cf_tree::{Branch, Definition, Named, Node, Tree};
@@ -256,9 +256,9 @@ pub(crate) fn lambda(
     requires { AllFit (params by.Lambda) (sems source.now values.old) }
     ensures { IfOk result (λ _. sems source.now values.new ≡ reduced by.Lambda place (sems source.now values.old)) }
 {
-    pop(values);
+    discard(values);
     let domain = pop(values).domain();
-    pop(values);
+    discard(values);
     let body = pop(values).term(source.alloc)?;
     let tree = lambda_tree(source.alloc, place, domain, body)?;
     push(values, Value::Term(tree))?;
@@ -274,9 +274,9 @@ pub(crate) fn function(
     requires { AllFit (params by.Function) (sems source.now values.old) }
     ensures { IfOk result (λ _. sems source.now values.new ≡ reduced by.Function place (sems source.now values.old)) }
 {
-    pop(values);
+    discard(values);
     let domain = pop(values).domain();
-    pop(values);
+    discard(values);
     let body = pop(values).term(source.alloc)?;
     let tree = function_tree(source.alloc, place, domain, body)?;
     push(values, Value::Term(tree))?;
@@ -292,9 +292,9 @@ pub(crate) fn function_type(
     requires { AllFit (params by.Pi) (sems source.now values.old) }
     ensures { IfOk result (λ _. sems source.now values.new ≡ reduced by.Pi place (sems source.now values.old)) }
 {
-    pop(values);
+    discard(values);
     let domain = pop(values).domain();
-    pop(values);
+    discard(values);
     let codomain = pop(values).term(source.alloc)?;
     let tree = function_type_tree(source.alloc, place, domain, codomain)?;
     push(values, Value::Term(tree))?;
@@ -310,13 +310,13 @@ pub(crate) fn meta_let(
     requires { AllFit (params by.Let) (sems source.now values.old) }
     ensures { IfOk result (λ _. sems source.now values.new ≡ reduced by.Let place (sems source.now values.old)) }
 {
-    pop(values);
+    discard(values);
     let binder = pop(values).binder();
-    pop(values);
+    discard(values);
     let ty = pop(values).term(source.alloc)?;
-    pop(values);
+    discard(values);
     let value = pop(values).term(source.alloc)?;
-    pop(values);
+    discard(values);
     let body = pop(values).term(source.alloc)?;
     let tree = meta_let_tree(source.alloc, place, binder, ty, value, body)?;
     push(values, Value::Term(tree))?;
@@ -332,13 +332,13 @@ pub(crate) fn value_let(
     requires { AllFit (params by.LetV) (sems source.now values.old) }
     ensures { IfOk result (λ _. sems source.now values.new ≡ reduced by.LetV place (sems source.now values.old)) }
 {
-    pop(values);
+    discard(values);
     let binder = pop(values).binder();
-    pop(values);
+    discard(values);
     let ty = pop(values).term(source.alloc)?;
-    pop(values);
+    discard(values);
     let value = pop(values).term(source.alloc)?;
-    pop(values);
+    discard(values);
     let body = pop(values).term(source.alloc)?;
     let tree = value_let_tree(source.alloc, place, binder, ty, value, body)?;
     push(values, Value::Term(tree))?;
@@ -354,13 +354,13 @@ pub(crate) fn recursion(
     requires { AllFit (params by.LetRec) (sems source.now values.old) }
     ensures { IfOk result (λ _. sems source.now values.new ≡ reduced by.LetRec place (sems source.now values.old)) }
 {
-    pop(values);
+    discard(values);
     let binder = pop(values).binder();
-    pop(values);
+    discard(values);
     let ty = pop(values).term(source.alloc)?;
-    pop(values);
+    discard(values);
     let value = pop(values).term(source.alloc)?;
-    pop(values);
+    discard(values);
     let body = pop(values).term(source.alloc)?;
     let tree = recursion_tree(source.alloc, place, binder, ty, value, body)?;
     push(values, Value::Term(tree))?;
@@ -376,13 +376,13 @@ pub(crate) fn pair_type(
     requires { AllFit (params by.Sig) (sems source.now values.old) }
     ensures { IfOk result (λ _. sems source.now values.new ≡ reduced by.Sig place (sems source.now values.old)) }
 {
-    pop(values);
-    pop(values);
+    discard(values);
+    discard(values);
     let binder = pop(values).binder();
-    pop(values);
+    discard(values);
     let first = pop(values).term(source.alloc)?;
-    pop(values);
-    pop(values);
+    discard(values);
+    discard(values);
     let second = pop(values).term(source.alloc)?;
     let tree = pair_type_tree(source.alloc, place, binder, first, second)?;
     push(values, Value::Term(tree))?;
@@ -398,13 +398,13 @@ pub(crate) fn cases(
     requires { AllFit (params by.Case) (sems source.now values.old) }
     ensures { IfOk result (λ _. sems source.now values.new ≡ reduced by.Case place (sems source.now values.old)) }
 {
-    pop(values);
+    discard(values);
     let scrutinee = pop(values).term(source.alloc)?;
     let ty = pop(values).optional_term();
-    pop(values);
-    pop(values);
+    discard(values);
+    discard(values);
     let arms = pop(values).arms(source.alloc)?;
-    pop(values);
+    discard(values);
     let tree = cases_tree(source.alloc, place, scrutinee, ty, arms)?;
     push(values, Value::Term(tree))?;
     Ok(())
@@ -421,7 +421,7 @@ pub(crate) fn branch(
 {
     let ctor = take_named(source, values)?;
     let names = pop(values).binders(source.alloc)?;
-    pop(values);
+    discard(values);
     let body = pop(values).term(source.alloc)?;
     let arm = new_arm(source.alloc, ctor, names, body)?;
     push(values, Value::Arm(arm))?;
@@ -453,7 +453,7 @@ pub(crate) fn onto_meta(
     requires { AllFit (params by.OntoMeta) (sems source.now values.old) }
     ensures { IfOk result (λ _. sems source.now values.new ≡ reduced by.OntoMeta place (sems source.now values.old)) }
 {
-    pop(values);
+    discard(values);
     let codomain = pop(values).term(source.alloc)?;
     push(values, Value::Onto(false, codomain))?;
     Ok(())
@@ -468,7 +468,7 @@ pub(crate) fn onto_object(
     requires { AllFit (params by.OntoObject) (sems source.now values.old) }
     ensures { IfOk result (λ _. sems source.now values.new ≡ reduced by.OntoObject place (sems source.now values.old)) }
 {
-    pop(values);
+    discard(values);
     let codomain = pop(values).term(source.alloc)?;
     push(values, Value::Onto(true, codomain))?;
     Ok(())

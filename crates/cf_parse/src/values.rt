@@ -2,7 +2,7 @@
 ghost use Rattle.std.specs.Prelude.{◌≡◌, ◌∷◌, ℕ, List, IfOk, Some, map, option_map, reverse};
 ghost use Rattle.cf_parse.specs.Kinds as kind;
 ghost use Rattle.cf_parse.specs.Kinds.{AllFit, Fits, IsToken};
-ghost use Rattle.cf_parse.specs.Meaning.{program_in};
+ghost use Rattle.cf_parse.specs.Meaning.{Sem, program_in};
 ghost use Rattle.cf_parse.specs.Values.{Taken, arm_of, argument_of, binder_sem, ctor_sem, decl_sem, domain_of, listed, optional_brackets, optional_onto, optional_term, sem, sems, term_of, token_of};
 ghost use Rattle.cf_syntax.specs.declared.source.Source as sources;
 
@@ -48,6 +48,13 @@ pub(crate) fn pop(values: &mut Vec<Value>) -> Value
         Some(value) => value,
         None => Value::Nothing,
     }
+}
+
+// Takes the topmost value away.
+pub(crate) fn discard(values: &mut Vec<Value>)
+    ensures { (s : sources.Source) → (v : Sem) × ((j : kind.Kind) → Taken j (sems s values.old) v (sems s values.new)) }
+{
+    pop(values);
 }
 
 // Puts a value on top.

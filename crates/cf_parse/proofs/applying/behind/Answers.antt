@@ -8,5 +8,5 @@ use Rattle.cf_parse.proofs.applying.behind.Goals as goal
 pub returns : goal.returns
 returns c =
     let s = c.args.source.now in
-    let o = two c.requires (c.pop.ensures s kind.Token) (c.pop-part.ensures s kind.Term) in
+    let o = two c.requires ((c.discard.ensures s).1 kind.Token) (c.pop-part.ensures s kind.Term) in
     made (reduced by.Behind c.args.place) (c.in_ok-push.ensures s) refl o.0 refl

@@ -9,5 +9,5 @@ use Rattle.cf_parse.proofs.atoms.brackets.Goals as goal
 pub returns : goal.returns
 returns c =
     let s = c.args.source.now in
-    let o = three c.requires (c.pop.ensures s kind.Token) (c.in_ok-terms.ensures s) (c.pop-2.ensures s kind.Token) in
+    let o = three c.requires ((c.discard.ensures s).1 kind.Token) (c.in_ok-terms.ensures s) ((c.discard-2.ensures s).1 kind.Token) in
     made (reduced by.Brackets c.args.place) (c.in_ok-push.ensures s) (ap (λ ts. meant.bracketed ts) (sym (terms_listed c.in_ok-terms.terms.items))) o.0 refl

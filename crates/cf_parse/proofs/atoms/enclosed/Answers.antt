@@ -9,5 +9,5 @@ use Rattle.cf_parse.proofs.atoms.enclosed.Goals as goal
 pub returns : goal.returns
 returns c =
     let s = c.args.source.now in
-    let o = four c.requires (c.pop.ensures s kind.Token) (c.in_ok-first.ensures s) (c.take_optional_term-second.ensures s) (c.pop-2.ensures s kind.Token) in
-    made (reduced by.Enclosed c.args.place) (c.in_ok-push.ensures s) (c.in_ok-t.ensures (sem s c.pop.result) (sem s c.pop-2.result ∷ [])) o.0 refl
+    let o = four c.requires ((c.discard.ensures s).1 kind.Token) (c.in_ok-first.ensures s) (c.take_optional_term-second.ensures s) ((c.discard-2.ensures s).1 kind.Token) in
+    made (reduced by.Enclosed c.args.place) (c.in_ok-push.ensures s) (c.in_ok-t.ensures (c.discard.ensures s).0 ((c.discard-2.ensures s).0 ∷ [])) o.0 refl

@@ -8,5 +8,5 @@ use Rattle.cf_parse.proofs.atoms.lift.Goals as goal
 pub returns : goal.returns
 returns c =
     let s = c.args.source.now in
-    let o = two c.requires (c.pop.ensures s kind.Token) (c.in_ok-t.ensures s) in
+    let o = two c.requires ((c.discard.ensures s).1 kind.Token) (c.in_ok-t.ensures s) in
     made (reduced by.Lift c.args.place) (c.in_ok-put_form.ensures s) refl o.0 refl

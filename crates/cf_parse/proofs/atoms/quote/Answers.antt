@@ -8,5 +8,5 @@ use Rattle.cf_parse.proofs.atoms.quote.Goals as goal
 pub returns : goal.returns
 returns c =
     let s = c.args.source.now in
-    let o = three c.requires (c.pop.ensures s kind.Token) (c.in_ok-t.ensures s) (c.pop-2.ensures s kind.Token) in
+    let o = three c.requires ((c.discard.ensures s).1 kind.Token) (c.in_ok-t.ensures s) ((c.discard-2.ensures s).1 kind.Token) in
     made (reduced by.Quote c.args.place) (c.in_ok-put_form.ensures s) refl o.0 refl

@@ -7,4 +7,4 @@ use Rattle.cf_parse.proofs.binding.implicit_binder.Goals as goal
 pub returns : goal.returns
 returns c =
     let s = c.args.source.now in
-    of_five (meant.typed true) c.args.place c.requires (c.pop.ensures s kind.Token) (c.pop-2.ensures s kind.Binder) (c.pop-3.ensures s kind.Token) (c.pop-4.ensures s kind.Term) (c.pop-5.ensures s kind.Token) (λ h. refl) (c.binder-binder.ensures s) (λ h. refl) (c.in_ok-ty.ensures s) (λ h. refl) (c.in_ok-push.ensures s) refl
+    of_five (meant.typed true) c.args.place c.requires ((c.discard.ensures s).1 kind.Token) (c.pop.ensures s kind.Binder) ((c.discard-2.ensures s).1 kind.Token) (c.pop-2.ensures s kind.Term) ((c.discard-3.ensures s).1 kind.Token) (λ h. refl) (c.binder-binder.ensures s) (λ h. refl) (c.in_ok-ty.ensures s) (λ h. refl) (c.in_ok-push.ensures s) refl

@@ -7,4 +7,4 @@ use Rattle.cf_parse.proofs.binding.unnamed.Goals as goal
 pub returns : goal.returns
 returns c =
     let s = c.args.source.now in
-    of_one meant.unnamed c.args.place c.requires (c.pop.ensures s kind.Token) (λ h. refl) (c.in_ok-push.ensures s) refl
+    of_one meant.unnamed c.args.place c.requires ((c.discard.ensures s).1 kind.Token) (λ h. refl) (c.in_ok-push.ensures s) refl

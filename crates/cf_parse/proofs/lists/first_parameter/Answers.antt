@@ -7,4 +7,4 @@ use Rattle.cf_parse.proofs.lists.first_parameter.Goals as goal
 pub returns : goal.returns
 returns c =
     let s = c.args.source.now in
-    of_two meant.more c.args.place c.requires (c.pop.ensures s _) (c.pop-2.ensures s _) (c.token-first.ensures s kind.Name tt) (c.in_ok-others.ensures s) (c.in_ok-push.ensures s) refl
+    of_two meant.more c.args.place c.requires (c.take_token-first.ensures s kind.Name tt) (c.pop.ensures s _) (λ h. refl) (c.in_ok-others.ensures s) (c.in_ok-push.ensures s) refl

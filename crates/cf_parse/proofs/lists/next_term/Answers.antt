@@ -6,4 +6,4 @@ use Rattle.cf_parse.proofs.lists.next_term.Goals as goal
 pub returns : goal.returns
 returns c =
     let s = c.args.source.now in
-    of_three meant.more_behind c.args.place c.requires (c.pop.ensures s _) (c.pop-2.ensures s _) (c.pop-3.ensures s _) (λ h. refl) (c.in_ok-first.ensures s) (c.in_ok-others.ensures s) (c.in_ok-push.ensures s) refl
+    of_three meant.more_behind c.args.place c.requires ((c.discard.ensures s).1 _) (c.pop.ensures s _) (c.pop-2.ensures s _) (λ h. refl) (c.in_ok-first.ensures s) (c.in_ok-others.ensures s) (c.in_ok-push.ensures s) refl

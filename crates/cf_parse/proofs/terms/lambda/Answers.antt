@@ -8,4 +8,4 @@ use Rattle.cf_parse.proofs.terms.lambda.Goals as goal
 pub returns : goal.returns
 returns c =
     let s = c.args.source.now in
-    of_four meant.lambda c.args.place c.requires (c.pop.ensures s kind.Token) (c.pop-2.ensures s kind.Domain) (c.pop-3.ensures s kind.Token) (c.pop-4.ensures s kind.Term) (λ h. refl) (c.domain-domain.ensures s) (λ h. refl) (c.in_ok-body.ensures s) (c.in_ok-push.ensures s) (c.in_ok-tree.ensures (sem s c.pop.result) (sem s c.pop-3.result))
+    of_four meant.lambda c.args.place c.requires ((c.discard.ensures s).1 kind.Token) (c.pop.ensures s kind.Domain) ((c.discard-2.ensures s).1 kind.Token) (c.pop-2.ensures s kind.Term) (λ h. refl) (c.domain-domain.ensures s) (λ h. refl) (c.in_ok-body.ensures s) (c.in_ok-push.ensures s) (c.in_ok-tree.ensures (c.discard.ensures s).0 (c.discard-2.ensures s).0)

@@ -9,4 +9,4 @@ use Rattle.cf_parse.proofs.terms.meta_let.Goals as goal
 pub returns : goal.returns
 returns c =
     let s = c.args.source.now in
-    of_eight (meant.definition head.Let) c.args.place c.requires (c.pop.ensures s kind.Token) (c.pop-2.ensures s kind.Binder) (c.pop-3.ensures s kind.Token) (c.pop-4.ensures s kind.Term) (c.pop-5.ensures s kind.Token) (c.pop-6.ensures s kind.Term) (c.pop-7.ensures s kind.Token) (c.pop-8.ensures s kind.Term) (λ h. refl) (c.binder-binder.ensures s) (λ h. refl) (c.in_ok-ty.ensures s) (λ h. refl) (c.in_ok-value.ensures s) (λ h. refl) (c.in_ok-body.ensures s) (c.in_ok-push.ensures s) (c.in_ok-tree.ensures (sem s c.pop.result) (sem s c.pop-3.result) (sem s c.pop-5.result) (sem s c.pop-7.result))
+    of_eight (meant.definition head.Let) c.args.place c.requires ((c.discard.ensures s).1 kind.Token) (c.pop.ensures s kind.Binder) ((c.discard-2.ensures s).1 kind.Token) (c.pop-2.ensures s kind.Term) ((c.discard-3.ensures s).1 kind.Token) (c.pop-3.ensures s kind.Term) ((c.discard-4.ensures s).1 kind.Token) (c.pop-4.ensures s kind.Term) (λ h. refl) (c.binder-binder.ensures s) (λ h. refl) (c.in_ok-ty.ensures s) (λ h. refl) (c.in_ok-value.ensures s) (λ h. refl) (c.in_ok-body.ensures s) (c.in_ok-push.ensures s) (c.in_ok-tree.ensures (c.discard.ensures s).0 (c.discard-2.ensures s).0 (c.discard-3.ensures s).0 (c.discard-4.ensures s).0)

@@ -7,4 +7,4 @@ use Rattle.cf_parse.proofs.terms.onto_meta.Goals as goal
 pub returns : goal.returns
 returns c =
     let s = c.args.source.now in
-    of_two (meant.behind false) c.args.place c.requires (c.pop.ensures s kind.Token) (c.pop-2.ensures s kind.Term) (λ h. refl) (c.in_ok-codomain.ensures s) (c.in_ok-push.ensures s) refl
+    of_two (meant.behind false) c.args.place c.requires ((c.discard.ensures s).1 kind.Token) (c.pop.ensures s kind.Term) (λ h. refl) (c.in_ok-codomain.ensures s) (c.in_ok-push.ensures s) refl

@@ -8,4 +8,4 @@ use Rattle.cf_parse.proofs.terms.pair_type.Goals as goal
 pub returns : goal.returns
 returns c =
     let s = c.args.source.now in
-    of_eight meant.pair_type c.args.place c.requires (c.pop.ensures s kind.Token) (c.pop-2.ensures s kind.Token) (c.pop-3.ensures s kind.Binder) (c.pop-4.ensures s kind.Token) (c.pop-5.ensures s kind.Term) (c.pop-6.ensures s kind.Token) (c.pop-7.ensures s kind.Token) (c.pop-8.ensures s kind.Term) (λ h. refl) (λ h. refl) (c.binder-binder.ensures s) (λ h. refl) (c.in_ok-first.ensures s) (λ h. refl) (λ h. refl) (c.in_ok-second.ensures s) (c.in_ok-push.ensures s) (c.in_ok-tree.ensures (sem s c.pop.result) (sem s c.pop-2.result) (sem s c.pop-4.result) (sem s c.pop-6.result) (sem s c.pop-7.result))
+    of_eight meant.pair_type c.args.place c.requires ((c.discard.ensures s).1 kind.Token) ((c.discard-2.ensures s).1 kind.Token) (c.pop.ensures s kind.Binder) ((c.discard-3.ensures s).1 kind.Token) (c.pop-2.ensures s kind.Term) ((c.discard-4.ensures s).1 kind.Token) ((c.discard-5.ensures s).1 kind.Token) (c.pop-3.ensures s kind.Term) (λ h. refl) (λ h. refl) (c.binder-binder.ensures s) (λ h. refl) (c.in_ok-first.ensures s) (λ h. refl) (λ h. refl) (c.in_ok-second.ensures s) (c.in_ok-push.ensures s) (c.in_ok-tree.ensures (c.discard.ensures s).0 (c.discard-2.ensures s).0 (c.discard-3.ensures s).0 (c.discard-4.ensures s).0 (c.discard-5.ensures s).0)
