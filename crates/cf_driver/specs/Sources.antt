@@ -4,10 +4,10 @@ use Rattle.cf_lex.specs.declared.ends.LexEnd.TheVariants as lex
 use Rattle.cf_lex.specs.Lexed.{TokenList, IsLexed}
 use Rattle.cf_lex.specs.Lexed as lexing
 use Rattle.cf_tree.specs.Tree.{Program}
-use Rattle.cf_parse.specs.declared.ends.ParseEnd.{ParseEnd}
-use Rattle.cf_parse.specs.declared.ends.ParseEnd.TheVariants as end
+use Rattle.cf_syntax.specs.declared.ends.ParseEnd.{ParseEnd}
+use Rattle.cf_syntax.specs.declared.ends.ParseEnd.TheVariants as end
 use Rattle.cf_parse.specs.Reads.{Reads}
-use Rattle.cf_parse.specs.Refusals.{IsRefused}
+use Rattle.cf_syntax.specs.Refusals.{IsRefused}
 use Rattle.cf_diag.specs.declared.refusal.Refusal.{Refusal}
 use Rattle.cf_diag.specs.declared.refusal.Refusal.TheVariants.{NotText, BadChar, Syntax, TooNested, TooMany, Literal, NoMemory}
 

@@ -14,8 +14,8 @@ use Rattle.cf_parse.specs.Kinds as kind
 use Rattle.cf_parse.specs.Kinds.{AllFit, Fits}
 use Rattle.cf_parse.specs.Meaning.{Sem, a_program, names_in}
 use Rattle.cf_parse.specs.Meaning as meant
-use Rattle.cf_parse.specs.Standing.{IsName, IsPlace}
-use Rattle.cf_parse.specs.Tokens.{Token}
+use Rattle.cf_syntax.specs.Places.{IsName, IsPlace}
+use Rattle.cf_syntax.specs.Tokens.{Token}
 use Rattle.cf_parse.specs.Values.{Taken, ctor_sem, decl_sem, listed, term_of}
 
 -- a stack, its top put otherwise, and what is behind it

@@ -13,19 +13,17 @@ use Rattle.cf_grammar.specs.declared.phrases.Phrase.{Phrase}
 use Rattle.cf_grammar.specs.declared.phrases.Symbol.{Symbol}
 use Rattle.cf_grammar.specs.declared.phrases.Symbol.TheVariants.{Is as is, Phrase as a}
 use Rattle.cf_grammar.proofs.Reached.{one_choice}
-use Rattle.cf_parse.proofs.Steps.{none_some, clash}
+use Rattle.cf_syntax.proofs.Cases.{none_some, clash}
+use Rattle.cf_syntax.proofs.Closing.{closed, closed_behind, closed_opened, leads_phrase, leads_token, never_ends, right_of, some, some_opened}
+use Rattle.cf_syntax.specs.Checks.{AllInRange, one}
 use Rattle.cf_parse.specs.Derivation.{Cst, leaf, branch, Csts, nil, cons, Parses, ParsesAll}
 use Rattle.cf_parse.specs.Derivation as derivation
 use Rattle.cf_parse.specs.Meaning.{value, values}
-use Rattle.cf_parse.specs.Reads.{in_range, within, within_all, within_limit}
+use Rattle.cf_syntax.specs.Numbers.{in_range}
+use Rattle.cf_parse.specs.Reads.{within, within_all, within_limit}
 use Rattle.cf_parse.specs.Standing.{Stands, StandAll, nullable}
 use Rattle.cf_parse.specs.Standing as standing
-use Rattle.cf_parse.specs.Tokens.{Token, classes}
-
--- every number is in its range
-pub data AllInRange : List Token → Type 0 where
-  none : AllInRange []
-  one : {k : Token} {ks : List Token} → in_range k.class k.text ≡ true → AllInRange ks → AllInRange (k ∷ ks)
+use Rattle.cf_syntax.specs.Tokens.{Token, classes}
 
 -- the table's number is that of a right side that is there
 numbered_get : (rs : List (List Symbol)) (w : ℕ) (y : Symbol) (r : List Symbol) → numbered rs (Some w) ≡ y ∷ r → slice_get rs w ≡ Some (y ∷ r)
@@ -61,58 +59,9 @@ among_nullable _ first = refl
 among_nullable _ (other {y = []} i) = refl
 among_nullable _ (other {y = z ∷ zs} {ys = ys} i) = among_nullable ys i
 
--- the end stands at the bottom of each stack
-abbrev pub is_last : Symbol → Bool
-is_last (is class.End) = true
-is_last y = false
-
-abbrev pub closed : List Symbol → Bool
-closed [] = true
-closed (y ∷ []) = is_last y
-closed (y ∷ z ∷ ys) = closed (z ∷ ys)
-
-pub closed_behind : (y : Symbol) (ys : List Symbol) → closed (y ∷ ys) ≡ true → closed ys ≡ true
-closed_behind y [] e = refl
-closed_behind y (z ∷ ys) e = e
-
-pub closed_opened : (r : List Symbol) (n : Phrase) (ys : List Symbol) → closed (a n ∷ ys) ≡ true → closed (r ++ ys) ≡ true
-closed_opened r n [] e = clash (sym e)
-closed_opened [] n (z ∷ ys) e = e
-closed_opened (y ∷ []) n (z ∷ ys) e = e
-closed_opened (y ∷ x ∷ r) n (z ∷ ys) e = closed_opened (x ∷ r) n (z ∷ ys) e
-
-abbrev pub some : {A : Type 0} → List A → Bool
-some [] = false
-some (x ∷ xs) = true
-
-pub some_opened : (r : List Symbol) (n : Phrase) (ys : List Symbol) → closed (a n ∷ ys) ≡ true → some (r ++ ys) ≡ true
-some_opened r n [] e = clash (sym e)
-some_opened [] n (z ∷ ys) e = refl
-some_opened (y ∷ r) n (z ∷ ys) e = refl
-
-pub never_ends : {ys : List Symbol} {l : List Class} → Derives ys l → closed ys ≡ true → some ys ≡ true → some l ≡ true
-never_ends grammar.done c e = clash (sym e)
-never_ends (grammar.token t d) c e = refl
-never_ends (grammar.phrase {n = n} {r = r} {ys = ys} i d) c e = never_ends d (closed_opened r n ys c) (some_opened r n ys c)
-
-pub leads_token : {xs ys : List Symbol} {y : Symbol} {k : Class} {l : List Class} → Leads xs l (y ∷ ys) → Takes y k → Leads xs (l ++ k ∷ []) ys
-leads_token grammar.none t = grammar.token t grammar.none
-leads_token (grammar.token u d) t = grammar.token u (leads_token d t)
-leads_token (grammar.phrase i d) t = grammar.phrase i (leads_token d t)
-
-pub leads_phrase : {xs ys : List Symbol} {n : Phrase} {r : List Symbol} {l : List Class} → Leads xs l (a n ∷ ys) → Among r (rules n) → Leads xs l (r ++ ys)
-leads_phrase grammar.none j = grammar.phrase j grammar.none
-leads_phrase (grammar.token u d) j = grammar.token u (leads_phrase d j)
-leads_phrase (grammar.phrase i d) j = grammar.phrase i (leads_phrase d j)
-
 none_both : (o : Option Fault) (i : ℕ) (later : Option (ℕ × Fault)) → or_later o i later ≡ None → (o ≡ None) × (later ≡ None)
 none_both None i later e = (refl, e)
 none_both (Some f) i later e = none_some (sym e)
-
--- the right side that a derivation takes first
-abbrev pub right_of : {n : Phrase} {ys : List Symbol} {l : List Class} → Derives (a n ∷ ys) l → List Symbol
-right_of (grammar.token t d) = []
-right_of (grammar.phrase {r = r} i d) = r
 
 and_both : (x y : Bool) → x ≡ true → y ≡ true → (x && y) ≡ true
 and_both true y p q = q

@@ -16,16 +16,18 @@ use Rattle.cf_grammar.specs.declared.productions.Step.{Step}
 use Rattle.cf_grammar.specs.declared.productions.Step.TheVariants as step
 use Rattle.cf_parse.proofs.Deriving.{filled, get_side}
 use Rattle.cf_parse.proofs.Fitting.{Right, acted, acting, mapped_there, matched, nothing_fits, numbered_there, optional, right}
-use Rattle.cf_parse.proofs.Steps.{clash, ended, no_phrase, none_some, opened as opened_there, Opened, by_empty, by_side, Parted, parted, some_inj}
+use Rattle.cf_syntax.proofs.Cases.{clash, none_some, some_inj}
+use Rattle.cf_parse.proofs.Steps.{ended, no_phrase, opened as opened_there, Opened, by_empty, by_side, Parted, parted}
 use Rattle.cf_parse.specs.Building.{Sound}
 use Rattle.cf_parse.specs.Evaluation.{action, arity, evaluated, first_token, firsts, reduced, next_at}
 use Rattle.cf_parse.specs.Kinds as kind
 use Rattle.cf_parse.specs.Kinds.{Kind, Fits, AllFit, end, next, Gives, a_token, a_name, a_whole, a_natlit, a_word, atoms_of, kind_of, of_atoms, of_symbol, params}
-use Rattle.cf_parse.specs.Meaning.{Action, Sem, actions, meaning, nothing, place, run}
+use Rattle.cf_syntax.specs.Places.{place, front}
+use Rattle.cf_parse.specs.Meaning.{Action, Sem, actions, meaning, nothing, run}
 use Rattle.cf_parse.specs.Meaning as meant
-use Rattle.cf_parse.specs.Reads.{in_range}
-use Rattle.cf_parse.specs.Standing.{Stands, StandAll, token, empty, phrase, none, both, behind, front}
-use Rattle.cf_parse.specs.Tokens.{Token, classes}
+use Rattle.cf_syntax.specs.Numbers.{in_range}
+use Rattle.cf_parse.specs.Standing.{Stands, StandAll, token, empty, phrase, none, both, behind}
+use Rattle.cf_syntax.specs.Tokens.{Token, classes}
 
 abbrev class_or : Class → List Class → Class
 class_or k [] = k

@@ -9,7 +9,7 @@ use Rattle.cf_grammar.specs.declared.phrases.Symbol.{Symbol}
 use Rattle.cf_grammar.specs.declared.productions.Production.{Production}
 use Rattle.cf_grammar.specs.declared.productions.Production.TheVariants as by
 use Rattle.cf_parse.proofs.Making.{word_fits}
-use Rattle.cf_parse.proofs.Steps.{clash, none_some, some_inj}
+use Rattle.cf_syntax.proofs.Cases.{clash, none_some, some_inj}
 use Rattle.cf_parse.specs.Evaluation.{action, arity, firsts}
 use Rattle.cf_parse.specs.Kinds as kind
 use Rattle.cf_parse.specs.Kinds.{Kind, Many, Maybe, Fits, AllFit, end, next, kind_of, of_symbol, params, IsOptional, Gives, a_token, a_name, a_whole, a_natlit, a_word, a_term, a_binder, a_domain, an_argument, an_onto, brackets, an_arm, a_ctor, a_decl, a_program, none, more, left_out, given}

@@ -1,12 +1,8 @@
-pub mod Decimals
 pub mod Stages
 pub mod Deriving
 pub mod Evaluating
-pub mod Judging
-pub mod Places
-pub mod Ranges
+pub mod Whole
 pub mod Reading
-pub mod Refusing
 pub mod Making
 pub mod Only
 pub mod Fitting

@@ -10,7 +10,7 @@ use Rattle.cf_parse.specs.Kinds.{Fits, a_term, atoms_of}
 use Rattle.cf_parse.specs.Kinds as kind
 use Rattle.cf_parse.specs.Meaning.{of_word, term}
 use Rattle.cf_parse.specs.Words.{form_of}
-use Rattle.cf_parse.proofs.Steps.{none_some, some_inj}
+use Rattle.cf_syntax.proofs.Cases.{none_some, some_inj}
 
 -- the tree that is made of this many atoms
 abbrev pub Makes : ℕ → Keyword → Type 0

@@ -9,10 +9,10 @@ use Rattle.cf_parse.specs.Evaluation.{first_token, next_text}
 use Rattle.cf_parse.specs.Kinds as kind
 use Rattle.cf_parse.specs.Kinds.{Fits, Kind, more}
 use Rattle.cf_parse.specs.Meaning.{Sem, also, ctors_in, decls_in, names_in}
-use Rattle.cf_parse.specs.Standing.{IsName}
-use Rattle.cf_parse.specs.Steps.{from}
-use Rattle.cf_parse.specs.Tokens.{Token}
-use Rattle.cf_parse.specs.declared.source.Source.{Source}
+use Rattle.cf_syntax.specs.Places.{IsName}
+use Rattle.cf_syntax.specs.Source.{from}
+use Rattle.cf_syntax.specs.Tokens.{Token}
+use Rattle.cf_syntax.specs.declared.source.Source.{Source}
 use Rattle.cf_parse.specs.Values.{ctor_sem, decl_sem, listed, token_of}
 
 -- the lists of meanings of items are the lists of these items

@@ -10,7 +10,7 @@ use Rattle.cf_tree.specs.Tree.{Program, Tree}
 use Rattle.cf_tree.specs.View.{Text}
 use Rattle.cf_parse.specs.declared.parts.Argument.{Argument}
 use Rattle.cf_parse.specs.declared.parts.Domain.{Domain}
-use Rattle.cf_parse.specs.declared.source.Source.{Source}
+use Rattle.cf_syntax.specs.declared.source.Source.{Source}
 use Rattle.cf_parse.specs.declared.values.Value.{Value}
 use Rattle.cf_parse.specs.declared.values.Value.TheVariants as value
 use Rattle.cf_parse.specs.Kinds as kind

@@ -1,6 +1,5 @@
 -- Tokens that the grammar finds to be a program read as the program that their steps build.
 use Rattle.std.proofs.Common.{◌≡◌, ◌∙◌, refl, ap, sym, subst, ℕ, ◌≤◌, Bool, true, List, [], ◌∷◌, length, Some, None}
-use Rattle.cf_lex.specs.Lexed.{TokenList}
 use Rattle.cf_tree.specs.Tree as trees
 use Rattle.cf_grammar.specs.Grammar.{IsProgram, Takes, exact, start}
 use Rattle.cf_grammar.specs.Productions.{Follows}
@@ -9,19 +8,21 @@ use Rattle.cf_grammar.specs.declared.classes.Class.TheVariants as class
 use Rattle.cf_grammar.specs.declared.endings.Ending.TheVariants as ending
 use Rattle.cf_grammar.specs.declared.phrases.Symbol.TheVariants.{Is as is}
 use Rattle.cf_grammar.specs.declared.productions.Step.{Step}
-use Rattle.cf_parse.proofs.Deriving.{AllInRange, limits, parses, stands}
+use Rattle.cf_syntax.specs.Checks.{AllInRange}
+use Rattle.cf_parse.proofs.Deriving.{limits, parses, stands}
 use Rattle.cf_parse.proofs.Evaluating.{outcome}
-use Rattle.cf_parse.proofs.Judging.{none_bad, whole}
+use Rattle.cf_parse.proofs.Whole.{whole}
 use Rattle.cf_parse.specs.Building.{Sound}
-use Rattle.cf_parse.specs.Checks.{FirstBad}
 use Rattle.cf_parse.specs.Evaluation.{evaluated}
 use Rattle.cf_parse.specs.Kinds as kind
 use Rattle.cf_parse.specs.Kinds.{AllFit, Fits, next}
-use Rattle.cf_parse.specs.Meaning.{Sem, place, program_in, value}
+use Rattle.cf_syntax.specs.Places.{place}
+use Rattle.cf_parse.specs.Meaning.{Sem, program_in, value}
 use Rattle.cf_parse.specs.Meaning as meant
-use Rattle.cf_parse.specs.Reads.{ReadsTokens, in_range}
+use Rattle.cf_syntax.specs.Numbers.{in_range}
+use Rattle.cf_parse.specs.Reads.{ReadsTokens}
 use Rattle.cf_parse.specs.Standing.{StandAll, Stands, both, none, token}
-use Rattle.cf_parse.specs.Tokens.{Token, classes, tokens_of}
+use Rattle.cf_syntax.specs.Tokens.{Token, classes, tokens_of}
 
 -- what the steps build is what the tokens read as
 pub record Parsed (b : Bool) (ks : List Token) (ps : List Step) : Type 0 where
@@ -31,9 +32,9 @@ pub record Parsed (b : Bool) (ks : List Token) (ps : List Step) : Type 0 where
 first_fits : {j : kind.Kind} {js : List kind.Kind} {v : Sem} {vs : List Sem} → AllFit (j ∷ js) (v ∷ vs) → Fits j v
 first_fits (next f h) = f
 
-parsed_tokens : (b : Bool) (ks : List Token) (ps : List Step) → Follows start ps (classes ks) → (d : IsProgram (classes ks)) → excess d 0 ≡ None → AllInRange ks → Parsed b ks ps
-parsed_tokens b ks ps f d e h =
-    let w = whole b ks d e h in
+pub parsed : (b : Bool) (ks : List Token) (ps : List Step) → Says (classes ks) ending.Fine → AllInRange ks → Follows start ps (classes ks) → Parsed b ks ps
+parsed b ks ps says h f =
+    let w = whole b ks says.0 says.1 h in
     let last : Stands b (is class.End) (w.last ∷ []) (meant.token (place b w.last.at) w.last.class w.last.text) [] = token (subst (λ c. Takes (is class.End) c) (sym w.ends) exact) (ap (λ c. in_range c w.last.text) w.ends) in
     let o = outcome ks f refl (both (stands b w.grows) (both last none)) in
     record {
@@ -43,6 +44,3 @@ parsed_tokens b ks ps f d e h =
         limits = limits w.grows;
       };
     }
-
-pub parsed : (b : Bool) (l : TokenList) (ps : List Step) (r : ℕ) → Says (classes (tokens_of l)) ending.Fine → length l.tokens ≤ r → FirstBad (tokens_of l) r → Follows start ps (classes (tokens_of l)) → Parsed b (tokens_of l) ps
-parsed b l ps r s h f g = parsed_tokens b (tokens_of l) ps g s.0 s.1 (none_bad l r f h)

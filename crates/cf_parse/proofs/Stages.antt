@@ -1,16 +1,28 @@
 -- One step of building after another, from the last to the first.
-use Rattle.std.proofs.Common.{◌≡◌, ◌∙◌, refl, ap, sym, subst, arith, append_assoc, ℕ, suc, ◌+◌, ◌-◌, ◌≤◌, Bool, List, [], ◌∷◌, ◌++◌, drop, length, take, Result, Ok, Err}
+use Rattle.std.proofs.Common.{◌≡◌, ◌∙◌, refl, ap, sym, subst, arith, append_assoc, ℕ, zero, suc, ◌+◌, ◌-◌, ◌≤◌, Bool, List, [], ◌∷◌, ◌++◌, drop, length, take, Result, Ok, Err}
 use Rattle.std.specs.Prelude.{IfOk}
 use Rattle.cf_grammar.specs.declared.productions.Production.{Production}
 use Rattle.cf_grammar.specs.declared.productions.Step.{Step}
 use Rattle.cf_grammar.specs.declared.productions.Step.TheVariants as step
-use Rattle.cf_parse.proofs.Places.{behind_drop, behind_one}
 use Rattle.cf_parse.specs.Building.{Sound, finished, taken, built, Stage, takes}
 use Rattle.cf_parse.specs.Evaluation.{evaluated, first_token, next_at, reduced}
 use Rattle.cf_parse.specs.Kinds.{AllFit, params}
-use Rattle.cf_parse.specs.Meaning.{Sem, place}
+use Rattle.cf_syntax.specs.Places.{place}
+use Rattle.cf_parse.specs.Meaning.{Sem}
 use Rattle.cf_parse.specs.Standing.{behind}
-use Rattle.cf_parse.specs.Tokens.{Token}
+use Rattle.cf_syntax.specs.Tokens.{Token}
+
+behind_suc : {A : Type 0} (xs : List A) (n : ℕ) → drop (suc n) xs ≡ drop 1 (drop n xs)
+behind_suc xs zero = refl
+behind_suc [] (suc n) = refl
+behind_suc (x ∷ xs) (suc n) = behind_suc xs n
+
+behind_drop : {A : Type 0} (xs : List A) (n : ℕ) → drop (n + 1) xs ≡ drop 1 (drop n xs)
+behind_drop xs n = let e : n + 1 ≡ suc n = omega arith in rw e (behind_suc xs n)
+
+behind_one : (ks : List Token) → drop 1 ks ≡ behind ks
+behind_one [] = refl
+behind_one (k ∷ ks) = refl
 
 -- all tokens are taken
 pub all_taken : {b : Bool} {ps : List Step} {ks : List Token} → Sound b ps ks → takes ps ≡ length ks

@@ -6,30 +6,10 @@ use Rattle.cf_grammar.specs.declared.classes.Class.{Class}
 use Rattle.cf_grammar.specs.declared.phrases.Phrase.{Phrase}
 use Rattle.cf_grammar.specs.declared.phrases.Symbol.{Symbol}
 use Rattle.cf_grammar.specs.declared.phrases.Symbol.TheVariants.{Phrase as a}
-use Rattle.cf_parse.specs.Meaning.{Sem, nothing, meaning, place}
-use Rattle.cf_parse.specs.Standing.{Stands, token, empty, phrase, StandAll, none, both, front, nullable}
-use Rattle.cf_parse.specs.Tokens.{Token}
-
-abbrev is_some : {A : Type 0} → Option A → Type 0
-is_some None = ⊥
-is_some (Some n) = Unit {0}
-
-pub none_some : {A B : Type 0} {x : A} → None ≡ Some x → B
-none_some e = absurd (subst is_some (sym e) tt)
-
-abbrev or_else : {A : Type 0} → A → Option A → A
-or_else x None = x
-or_else x (Some y) = y
-
-pub some_inj : {A : Type 0} {x y : A} → Some x ≡ Some y → x ≡ y
-some_inj {x = x} e = ap (or_else x) e
-
-abbrev truth : Bool → Type 0
-truth true = Unit {0}
-truth false = ⊥
-
-pub clash : {A : Type 0} → true ≡ false → A
-clash e = absurd (subst truth e tt)
+use Rattle.cf_syntax.specs.Places.{place, front}
+use Rattle.cf_parse.specs.Meaning.{Sem, nothing, meaning}
+use Rattle.cf_parse.specs.Standing.{Stands, token, empty, phrase, StandAll, none, both, nullable}
+use Rattle.cf_syntax.specs.Tokens.{Token}
 
 pub no_phrase : {A : Type 0} {n : Phrase} {c : Class} → Takes (a n) c → A
 no_phrase t = elim t [ ]

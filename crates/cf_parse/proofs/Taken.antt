@@ -15,11 +15,11 @@ use Rattle.cf_tree.specs.View.{one_each, tree_of}
 use Rattle.cf_parse.specs.Evaluation.{first_token, next_at, next_text, reduced}
 use Rattle.cf_parse.specs.Kinds as kind
 use Rattle.cf_parse.specs.Kinds.{Kind, Fits, AllFit, next, a_name, a_whole, a_natlit, a_word, atoms_of, params}
-use Rattle.cf_parse.specs.Meaning.{Sem, parts, place, terms_in, whole_of, natlit_of}
+use Rattle.cf_syntax.specs.Places.{place, IsName, IsNumber, IsPlace, front}
+use Rattle.cf_syntax.specs.Numbers.{whole_of, natlit_of, in_range}
+use Rattle.cf_parse.specs.Meaning.{Sem, parts, terms_in}
 use Rattle.cf_parse.specs.Meaning as meant
-use Rattle.cf_parse.specs.Reads.{in_range}
-use Rattle.cf_parse.specs.Standing.{IsName, IsNumber, IsPlace, front}
-use Rattle.cf_parse.specs.Tokens.{Token}
+use Rattle.cf_syntax.specs.Tokens.{Token}
 use Rattle.cf_parse.specs.Values.{Taken, listed, optional_brackets, term_of}
 
 -- what was taken, told otherwise

@@ -8,11 +8,11 @@ use Rattle.cf_grammar.specs.declared.classes.Class.TheVariants as class
 use Rattle.cf_grammar.specs.declared.phrases.Phrase.TheVariants.{Program}
 use Rattle.cf_grammar.specs.declared.phrases.Symbol.{Symbol}
 use Rattle.cf_grammar.specs.declared.phrases.Symbol.TheVariants.{Is as is, Phrase as a}
-use Rattle.cf_parse.proofs.Steps.{none_some, some_inj}
+use Rattle.cf_syntax.proofs.Cases.{none_some, some_inj}
 use Rattle.cf_parse.specs.Derivation.{Cst, leaf, branch, Csts, nil, cons, Parses, ParsesAll, token, phrase, none, both}
 use Rattle.cf_parse.specs.Laws.{ReadsOne}
 use Rattle.cf_parse.specs.Meaning.{program_of}
-use Rattle.cf_parse.specs.Tokens.{Token, classes}
+use Rattle.cf_syntax.specs.Tokens.{Token, classes}
 
 abbrev pub index : {r : List Symbol} {rs : List (List Symbol)} → Among r rs → ℕ
 index first = 0

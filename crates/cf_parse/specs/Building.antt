@@ -6,7 +6,7 @@ use Rattle.cf_grammar.specs.declared.productions.Step.TheVariants as step
 use Rattle.cf_parse.specs.Evaluation.{evaluated}
 use Rattle.cf_parse.specs.Kinds.{AllFit, params}
 use Rattle.cf_parse.specs.Meaning.{Sem}
-use Rattle.cf_parse.specs.Tokens.{Token}
+use Rattle.cf_syntax.specs.Tokens.{Token}
 
 -- each step that opens a phrase has meanings of the kinds that its right side asks for
 pub data Sound (b : Bool) : List Step → List Token → Type 0 where

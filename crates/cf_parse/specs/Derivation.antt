@@ -4,7 +4,7 @@ use Rattle.cf_grammar.specs.Grammar.{rules, Takes}
 use Rattle.cf_grammar.specs.declared.phrases.Phrase.{Phrase}
 use Rattle.cf_grammar.specs.declared.phrases.Symbol.{Symbol}
 use Rattle.cf_grammar.specs.declared.phrases.Symbol.TheVariants.{Phrase as a}
-use Rattle.cf_parse.specs.Tokens.{Token}
+use Rattle.cf_syntax.specs.Tokens.{Token}
 
 mutual
   -- a token, or a phrase with the number of its right side, the byte where it begins, and a tree for each symbol of the right side

@@ -6,11 +6,12 @@ use Rattle.cf_grammar.specs.declared.productions.Production.TheVariants as by
 use Rattle.cf_grammar.specs.declared.productions.Step.{Step}
 use Rattle.cf_grammar.specs.declared.productions.Step.TheVariants as step
 use Rattle.cf_tree.specs.declared.heads.Head.TheVariants as head
-use Rattle.cf_parse.specs.Meaning.{Action, Sem, nothing, place}
+use Rattle.cf_syntax.specs.Places.{place, front}
+use Rattle.cf_parse.specs.Meaning.{Action, Sem, nothing}
 use Rattle.cf_parse.specs.Meaning as meant
 use Rattle.cf_parse.specs.Kinds.{params}
-use Rattle.cf_parse.specs.Standing.{behind, front}
-use Rattle.cf_parse.specs.Tokens.{Token}
+use Rattle.cf_parse.specs.Standing.{behind}
+use Rattle.cf_syntax.specs.Tokens.{Token}
 
 -- the action of a right side, by its kind
 abbrev pub action : Production → Action

@@ -14,7 +14,7 @@ use Rattle.cf_grammar.specs.declared.productions.Production.TheVariants as by
 use Rattle.cf_tree.specs.Tree as trees
 use Rattle.cf_parse.specs.Meaning.{Sem}
 use Rattle.cf_parse.specs.Meaning as meant
-use Rattle.cf_parse.specs.Reads.{in_range}
+use Rattle.cf_syntax.specs.Numbers.{in_range}
 
 -- how many atoms a word takes
 abbrev pub atoms_of : Keyword → Option ℕ

@@ -1,7 +1,7 @@
 -- Laws of reading.
 use Rattle.std.specs.Prelude.{Bool, List, ◌≡◌}
 use Rattle.cf_tree.specs.Tree as trees
-use Rattle.cf_parse.specs.Tokens.{Token}
+use Rattle.cf_syntax.specs.Tokens.{Token}
 use Rattle.cf_parse.specs.Reads.{ReadsUnlimited}
 
 -- tokens are one program at most

@@ -1,15 +1,11 @@
-pub mod Tokens
 pub mod Derivation
 pub mod Words
 pub mod Meaning
 pub mod Reads
-pub mod Refusals
 pub mod Laws
 pub mod Standing
-pub mod Steps
 pub mod Kinds
 pub mod Evaluation
 pub mod Values
 pub mod Building
 pub mod Built
-pub mod Checks

@@ -1,6 +1,6 @@
 -- What a tree of productions means: each right side of the grammar has an action, in the same order, which makes the meaning of the
 -- phrase from the meanings of its symbols. A right side without symbols means nothing.
-use Rattle.std.specs.Prelude.{ℕ, ◌+◌, ◌-◌, ◌*◌, ◌==◌, Bool, true, false, List, [], ◌∷◌, ◌++◌, length, map, Option, Some, None, ℤ, pos, neg_ℤ, slice_get}
+use Rattle.std.specs.Prelude.{ℕ, Bool, true, false, List, [], ◌∷◌, ◌++◌, length, map, Option, Some, None, slice_get}
 use Rattle.cf_base.specs.declared.at.At.{At}
 use Rattle.cf_lex.specs.declared.keywords.Keyword.{Keyword}
 use Rattle.cf_grammar.specs.Grammar.{of_one, of_two, of_three, of_four, constants}
@@ -12,6 +12,8 @@ use Rattle.cf_tree.specs.declared.heads.Head.{Head}
 use Rattle.cf_tree.specs.declared.heads.Head.TheVariants as head
 use Rattle.cf_tree.specs.Tree as trees
 use Rattle.cf_tree.specs.Tree.{Name, Named, Binder, Plain, Variable, DataAt, ConAt, Tree, tree, Trees, none, part, CtorTree, DeclTree, DataD, MetaD, ObjectD}
+use Rattle.cf_syntax.specs.Numbers.{natlit_of, whole_of}
+use Rattle.cf_syntax.specs.Places.{place}
 use Rattle.cf_parse.specs.Derivation.{Cst, leaf, branch, Csts, nil, cons}
 use Rattle.cf_parse.specs.Words.{form_of}
 
@@ -81,25 +83,6 @@ form p h ts = tree p (Plain h) (parts ts)
 -- a form with two parts, the second under a binder
 abbrev pub bound : At → Head → Tree → Binder → Tree → Sem
 bound p h t b u = term (tree p (Plain h) (part [] t (part (b ∷ []) u none)))
-
--- numbers
-abbrev pub decimal : ℕ → List ℕ → ℕ
-decimal n [] = n
-decimal n (c ∷ cs) = decimal (n * 10 + (c - 48)) cs
-
-abbrev pub signed : (minus : Bool) → ℕ → ℤ
-signed true n = neg_ℤ (pos n)
-signed false n = pos n
-
--- the number of digits, with `-` before them or not
-abbrev pub whole_of : List ℕ → ℤ
-whole_of [] = pos 0
-whole_of (c ∷ cs) = elim (c == 45) [ true ↦ signed true (decimal 0 cs) | false ↦ signed false (decimal 0 (c ∷ cs)) ]
-
--- the number of digits behind `#`
-abbrev pub natlit_of : List ℕ → ℕ
-natlit_of [] = 0
-natlit_of (c ∷ cs) = decimal 0 cs
 
 -- actions for any kind of phrase
 abbrev pub empty : Action
@@ -349,9 +332,6 @@ run None p (v ∷ vs) = nothing
 -- the meaning of a phrase at a place, by its right side with this number
 abbrev pub meaning : Phrase → ℕ → Action
 meaning n which = run (slice_get (actions n) which)
-
-abbrev pub place : (prelude : Bool) → ℕ → At
-place b n = record { prelude = b; offset = n }
 
 -- the meaning of a tree
 abbrev mutual

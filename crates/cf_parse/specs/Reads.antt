@@ -1,30 +1,16 @@
 -- Which program the tokens of a text read as.
-use Rattle.std.specs.Prelude.{ℕ, ◌^◌, Bool, true, false, ◌&&◌, List, [], ◌∷◌, Option, Some, None, ℤ, pos, negsuc, nat_le, nat_lt, IsTrue, ◌≡◌}
+use Rattle.std.specs.Prelude.{ℕ, Bool, true, false, ◌&&◌, List, [], ◌∷◌, Option, Some, None, IsTrue, ◌≡◌}
 use Rattle.cf_lex.specs.Lexed.{TokenList}
-use Rattle.cf_grammar.specs.declared.classes.Class.{Class}
 use Rattle.cf_grammar.specs.declared.classes.Class.TheVariants as class
 use Rattle.cf_grammar.specs.declared.endings.Fault.{Fault}
 use Rattle.cf_grammar.specs.declared.phrases.Phrase.TheVariants.{Program}
 use Rattle.cf_grammar.specs.declared.phrases.Symbol.TheVariants.{Phrase as a}
 use Rattle.cf_grammar.specs.Refusing.{over}
 use Rattle.cf_tree.specs.Tree as trees
-use Rattle.cf_parse.specs.Tokens.{Token, tokens_of}
+use Rattle.cf_syntax.specs.Tokens.{Token, tokens_of}
 use Rattle.cf_parse.specs.Derivation.{Cst, leaf, branch, Csts, nil, cons, Parses}
-use Rattle.cf_parse.specs.Meaning.{program_of, whole_of, natlit_of}
-
-abbrev pub fits_word : ℤ → Bool
-fits_word (pos n) = nat_lt n (2 ^ 63)
-fits_word (negsuc n) = nat_lt n (2 ^ 63)
-
--- a number within its range: whole numbers of 64 signed bits, Nat literals up to 64
-abbrev pub in_range : Class → List ℕ → Bool
-in_range class.Whole text = fits_word (whole_of text)
-in_range class.NatLit text = nat_le (natlit_of text) 64
-in_range (class.Name p) text = true
-in_range (class.Word y) text = true
-in_range class.Hole text = true
-in_range (class.Mark z) text = true
-in_range class.End text = true
+use Rattle.cf_syntax.specs.Numbers.{in_range}
+use Rattle.cf_parse.specs.Meaning.{program_of}
 
 abbrev pub within_limit : Option Fault → Bool
 within_limit None = true

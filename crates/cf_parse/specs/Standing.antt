@@ -8,15 +8,11 @@ use Rattle.cf_grammar.specs.declared.classes.Class.TheVariants as class
 use Rattle.cf_grammar.specs.declared.phrases.Phrase.{Phrase}
 use Rattle.cf_grammar.specs.declared.phrases.Symbol.{Symbol}
 use Rattle.cf_grammar.specs.declared.phrases.Symbol.TheVariants.{Phrase as a}
-use Rattle.cf_parse.specs.Meaning.{Sem, nothing, meaning, place}
+use Rattle.cf_syntax.specs.Places.{place}
+use Rattle.cf_parse.specs.Meaning.{Sem, nothing, meaning}
 use Rattle.cf_parse.specs.Meaning as meant
-use Rattle.cf_parse.specs.Reads.{in_range}
-use Rattle.cf_parse.specs.Tokens.{Token}
-
--- the class of the next token
-abbrev pub front : List Token → Class
-front [] = class.End
-front (k ∷ ks) = k.class
+use Rattle.cf_syntax.specs.Numbers.{in_range}
+use Rattle.cf_syntax.specs.Tokens.{Token}
 
 -- the tokens behind the next one
 abbrev pub behind : List Token → List Token
@@ -40,24 +36,3 @@ mutual
   pub data StandAll (b : Bool) : List Symbol → List Token → List Sem → List Token → Type 0 where
     none : {ks : List Token} → StandAll b [] ks [] ks
     both : {y : Symbol} {ys : List Symbol} {v : Sem} {vs : List Sem} {ks ls rest : List Token} → Stands b y ks v ls → StandAll b ys ls vs rest → StandAll b (y ∷ ys) ks (v ∷ vs) rest
-
--- the place of the first of these tokens
-abbrev pub IsPlace : Bool → List Token → At → Type 0
-IsPlace b ks p = (k : Token) (ls : List Token) → ks ≡ k ∷ ls → p ≡ place b k.at
-
--- the bytes of the first of these tokens, where it is a name
-abbrev pub IsName : List Token → List ℕ → Type 0
-IsName ks x = (k : Token) (ls : List Token) (p : Bool) → ks ≡ k ∷ ls → k.class ≡ class.Name p → x ≡ k.text
-
--- the number of the first of these tokens, where it is of this class
-abbrev pub IsNumber : {N : Type 0} → Class → (List ℕ → N) → List Token → N → Type 0
-IsNumber c of_text ks z = (k : Token) (ls : List Token) → ks ≡ k ∷ ls → k.class ≡ c → in_range k.class k.text ≡ true → of_text k.text ≡ z
-
-abbrev pub is_end : Class → Bool
-is_end (class.Name p) = false
-is_end (class.Word y) = false
-is_end class.Whole = false
-is_end class.NatLit = false
-is_end class.Hole = false
-is_end (class.Mark z) = false
-is_end class.End = true

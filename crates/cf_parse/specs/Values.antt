@@ -9,14 +9,14 @@ use Rattle.cf_tree.specs.Tree.{Tree}
 use Rattle.cf_tree.specs.View.{Text, binder_of, binders_of, ctor_of, decl_of}
 use Rattle.cf_parse.specs.declared.parts.Argument.{Argument}
 use Rattle.cf_parse.specs.declared.parts.Domain.{Domain}
-use Rattle.cf_parse.specs.declared.source.Source.{Source}
+use Rattle.cf_syntax.specs.declared.source.Source.{Source}
 use Rattle.cf_parse.specs.declared.values.Value.{Value}
 use Rattle.cf_parse.specs.declared.values.Value.TheVariants as value
 use Rattle.cf_parse.specs.Evaluation.{first_token}
 use Rattle.cf_parse.specs.Kinds.{Kind, Fits, AllFit}
 use Rattle.cf_parse.specs.Meaning.{Sem, also}
 use Rattle.cf_parse.specs.Meaning as meant
-use Rattle.cf_parse.specs.Steps.{from}
+use Rattle.cf_syntax.specs.Source.{from}
 
 -- a list of meanings
 abbrev pub listed : List Sem → Sem

@@ -2,99 +2,115 @@
 ghost use Rattle.std.specs.Prelude.{◌≡◌, ◌∷◌, List, IfOk};
 ghost use Rattle.cf_parse.specs.Evaluation.{reduced};
 ghost use Rattle.cf_parse.specs.Kinds.{AllFit, params};
-ghost use Rattle.cf_parse.specs.Meaning.{place};
-ghost use Rattle.cf_parse.specs.Steps.{from};
-ghost use Rattle.cf_parse.specs.Tokens as spec;
+ghost use Rattle.cf_syntax.specs.Places.{place};
+ghost use Rattle.cf_syntax.specs.Source.{from};
+ghost use Rattle.cf_syntax.specs.Tokens as spec;
 ghost use Rattle.cf_parse.specs.Values.{sems};
 
-use crate::ends::OutOfMemory;
-use crate::source::Source;
+use crate::applying::{
+    application, behind, chain, empty, explicit_argument, implicit_argument, same,
+};
+use crate::atoms::{
+    brackets, constant, construction, enclosed, four_atoms, hole, lift, literal, numeral, one_atom,
+    quote, splice, three_atoms, two_atoms, variable,
+};
+use crate::binding::{implicit_binder, named, typed_binder, unnamed, untyped_binder};
+use crate::declarations::{
+    constructor, data, explicit_program, meta, object, parameter, plain_program, prelude_program,
+};
+use crate::lists::{
+    first_argument, first_binder, first_branch, first_constructor, first_declaration,
+    first_parameter, first_term, next_branch, next_constructor, next_term,
+};
+use crate::terms::{
+    arrow, branch, cases, function, function_type, lambda, meta_let, onto_meta, onto_object,
+    pair_type, recursion, value_let,
+};
 use crate::values::Value;
 use cf_base::At;
 use cf_grammar::Production;
+use cf_syntax::{OutOfMemory, Source};
 
-impl Source<'_> {
-    // Puts what a phrase stands for in place of what its symbols stand for. Its next token has this number.
-    pub fn reduce(
-        &self,
-        values: &mut Vec<Value>,
-        production: Production,
-        at: usize,
-    ) -> Result<(), OutOfMemory>
-        requires { AllFit (params production) (sems self.now values.old) }
-        ensures { IfOk result (λ _. (k : spec.Token) (ks : List spec.Token) → from self.now at ≡ k ∷ ks → sems self.now values.new ≡ reduced production (place self.now.prelude k.at) (sems self.now values.old)) }
-    {
-        self.reduce_at(values, production, self.place(at))
-    }
+// Puts what a phrase stands for in place of what its symbols stand for. Its next token has this number.
+pub(crate) fn reduce(
+    source: &Source<'_>,
+    values: &mut Vec<Value>,
+    production: Production,
+    at: usize,
+) -> Result<(), OutOfMemory>
+    requires { AllFit (params production) (sems source.now values.old) }
+    ensures { IfOk result (λ _. (k : spec.Token) (ks : List spec.Token) → from source.now at ≡ k ∷ ks → sems source.now values.new ≡ reduced production (place source.now.prelude k.at) (sems source.now values.old)) }
+{
+    reduce_at(source, values, production, source.place(at))
+}
 
-    // The same, at a place: the action of each right side.
-    fn reduce_at(
-        &self,
-        values: &mut Vec<Value>,
-        production: Production,
-        place: At,
-    ) -> Result<(), OutOfMemory>
-        requires { AllFit (params production) (sems self.now values.old) }
-        ensures { IfOk result (λ _. sems self.now values.new ≡ reduced production place (sems self.now values.old)) }
-    {
-        match production {
-            Production::Empty => self.empty(values, place),
-            Production::Explicit => self.explicit_program(values, place),
-            Production::Prelude => self.prelude_program(values, place),
-            Production::Plain => self.plain_program(values, place),
-            Production::FirstDecl => self.first_declaration(values, place),
-            Production::Data => self.data(values, place),
-            Production::Meta => self.meta(values, place),
-            Production::Object => self.object(values, place),
-            Production::FirstParam => self.first_parameter(values, place),
-            Production::Param => self.parameter(values, place),
-            Production::FirstCtor => self.first_constructor(values, place),
-            Production::NextCtor => self.next_constructor(values, place),
-            Production::Ctor => self.constructor(values, place),
-            Production::FirstTerm => self.first_term(values, place),
-            Production::NextTerm => self.next_term(values, place),
-            Production::Same => self.same(values, place),
-            Production::Behind => self.behind(values, place),
-            Production::Lambda => self.lambda(values, place),
-            Production::Function => self.function(values, place),
-            Production::Let => self.meta_let(values, place),
-            Production::LetV => self.value_let(values, place),
-            Production::LetRec => self.recursion(values, place),
-            Production::Pi => self.function_type(values, place),
-            Production::Sig => self.pair_type(values, place),
-            Production::Case => self.cases(values, place),
-            Production::Arrow => self.arrow(values, place),
-            Production::TypedBinder => self.typed_binder(values, place),
-            Production::ImplicitBinder => self.implicit_binder(values, place),
-            Production::UntypedBinder => self.untyped_binder(values, place),
-            Production::FirstBranch => self.first_branch(values, place),
-            Production::NextBranch => self.next_branch(values, place),
-            Production::Branch => self.branch(values, place),
-            Production::OntoMeta => self.onto_meta(values, place),
-            Production::OntoObject => self.onto_object(values, place),
-            Production::Chain => self.chain(values, place),
-            Production::Application => self.application(values, place),
-            Production::FirstArgument => self.first_argument(values, place),
-            Production::ExplicitArgument => self.explicit_argument(values, place),
-            Production::ImplicitArgument => self.implicit_argument(values, place),
-            Production::Constant => self.constant(values, place),
-            Production::OneAtom => self.one_atom(values, place),
-            Production::TwoAtoms => self.two_atoms(values, place),
-            Production::ThreeAtoms => self.three_atoms(values, place),
-            Production::FourAtoms => self.four_atoms(values, place),
-            Production::Variable => self.variable(values, place),
-            Production::Literal => self.literal(values, place),
-            Production::Numeral => self.numeral(values, place),
-            Production::Construction => self.construction(values, place),
-            Production::Enclosed => self.enclosed(values, place),
-            Production::Quote => self.quote(values, place),
-            Production::Splice => self.splice(values, place),
-            Production::Lift => self.lift(values, place),
-            Production::Hole => self.hole(values, place),
-            Production::Brackets => self.brackets(values, place),
-            Production::Named => self.named(values, place),
-            Production::Unnamed => self.unnamed(values, place),
-            Production::FirstBinder => self.first_binder(values, place),
-        }
+// The same, at a place: the action of each right side.
+fn reduce_at(
+    source: &Source<'_>,
+    values: &mut Vec<Value>,
+    production: Production,
+    place: At,
+) -> Result<(), OutOfMemory>
+    requires { AllFit (params production) (sems source.now values.old) }
+    ensures { IfOk result (λ _. sems source.now values.new ≡ reduced production place (sems source.now values.old)) }
+{
+    match production {
+        Production::Empty => empty(source, values, place),
+        Production::Explicit => explicit_program(source, values, place),
+        Production::Prelude => prelude_program(source, values, place),
+        Production::Plain => plain_program(source, values, place),
+        Production::FirstDecl => first_declaration(source, values, place),
+        Production::Data => data(source, values, place),
+        Production::Meta => meta(source, values, place),
+        Production::Object => object(source, values, place),
+        Production::FirstParam => first_parameter(source, values, place),
+        Production::Param => parameter(source, values, place),
+        Production::FirstCtor => first_constructor(source, values, place),
+        Production::NextCtor => next_constructor(source, values, place),
+        Production::Ctor => constructor(source, values, place),
+        Production::FirstTerm => first_term(source, values, place),
+        Production::NextTerm => next_term(source, values, place),
+        Production::Same => same(source, values, place),
+        Production::Behind => behind(source, values, place),
+        Production::Lambda => lambda(source, values, place),
+        Production::Function => function(source, values, place),
+        Production::Let => meta_let(source, values, place),
+        Production::LetV => value_let(source, values, place),
+        Production::LetRec => recursion(source, values, place),
+        Production::Pi => function_type(source, values, place),
+        Production::Sig => pair_type(source, values, place),
+        Production::Case => cases(source, values, place),
+        Production::Arrow => arrow(source, values, place),
+        Production::TypedBinder => typed_binder(source, values, place),
+        Production::ImplicitBinder => implicit_binder(source, values, place),
+        Production::UntypedBinder => untyped_binder(source, values, place),
+        Production::FirstBranch => first_branch(source, values, place),
+        Production::NextBranch => next_branch(source, values, place),
+        Production::Branch => branch(source, values, place),
+        Production::OntoMeta => onto_meta(source, values, place),
+        Production::OntoObject => onto_object(source, values, place),
+        Production::Chain => chain(source, values, place),
+        Production::Application => application(source, values, place),
+        Production::FirstArgument => first_argument(source, values, place),
+        Production::ExplicitArgument => explicit_argument(source, values, place),
+        Production::ImplicitArgument => implicit_argument(source, values, place),
+        Production::Constant => constant(source, values, place),
+        Production::OneAtom => one_atom(source, values, place),
+        Production::TwoAtoms => two_atoms(source, values, place),
+        Production::ThreeAtoms => three_atoms(source, values, place),
+        Production::FourAtoms => four_atoms(source, values, place),
+        Production::Variable => variable(source, values, place),
+        Production::Literal => literal(source, values, place),
+        Production::Numeral => numeral(source, values, place),
+        Production::Construction => construction(source, values, place),
+        Production::Enclosed => enclosed(source, values, place),
+        Production::Quote => quote(source, values, place),
+        Production::Splice => splice(source, values, place),
+        Production::Lift => lift(source, values, place),
+        Production::Hole => hole(source, values, place),
+        Production::Brackets => brackets(source, values, place),
+        Production::Named => named(source, values, place),
+        Production::Unnamed => unnamed(source, values, place),
+        Production::FirstBinder => first_binder(source, values, place),
     }
 }

@@ -7,12 +7,11 @@ ghost use Rattle.cf_parse.specs.Meaning as meant;
 ghost use Rattle.cf_parse.specs.Values.{argument_of, listed, sems, term_of};
 ghost use Rattle.cf_tree.specs.declared.heads.Head.TheVariants as head;
 
-use crate::ends::OutOfMemory;
 use crate::parts::Argument;
-use crate::source::Source;
 use crate::taking::take_term;
-use crate::values::{Value, pop, push};
+use crate::values::{Value, discard, pop, push};
 use cf_base::At;
+use cf_syntax::{OutOfMemory, Source};
 use cf_tree::{Node, Tree};
 use std::alloc::Global;
 
@@ -71,86 +70,112 @@ fn with_arguments(
     Ok(t)
 }
 
-impl Source<'_> {
-    // `t @ u @ ..`
-    pub fn chain(&self, values: &mut Vec<Value>, place: At) -> Result<(), OutOfMemory>
-        requires { AllFit (params by.Chain) (sems self.now values.old) }
-        ensures { IfOk result (λ _. sems self.now values.new ≡ reduced by.Chain place (sems self.now values.old)) }
-    {
-        let first = take_term(values, self.alloc)?;
-        let operands = pop(values).terms(self.alloc)?;
-        let t = with_operands(self.alloc, place, first, operands)?;
-        push(values, Value::Term(t))?;
-        Ok(())
-    }
+// `t @ u @ ..`
+pub(crate) fn chain(
+    source: &Source<'_>,
+    values: &mut Vec<Value>,
+    place: At,
+) -> Result<(), OutOfMemory>
+    requires { AllFit (params by.Chain) (sems source.now values.old) }
+    ensures { IfOk result (λ _. sems source.now values.new ≡ reduced by.Chain place (sems source.now values.old)) }
+{
+    let first = take_term(values, source.alloc)?;
+    let operands = pop(values).terms(source.alloc)?;
+    let t = with_operands(source.alloc, place, first, operands)?;
+    push(values, Value::Term(t))?;
+    Ok(())
+}
 
-    // `t u {v} ..`
-    pub fn application(&self, values: &mut Vec<Value>, place: At) -> Result<(), OutOfMemory>
-        requires { AllFit (params by.Application) (sems self.now values.old) }
-        ensures { IfOk result (λ _. sems self.now values.new ≡ reduced by.Application place (sems self.now values.old)) }
-    {
-        let function = take_term(values, self.alloc)?;
-        let arguments = pop(values).arguments(self.alloc)?;
-        let t = with_arguments(self.alloc, place, function, arguments)?;
-        push(values, Value::Term(t))?;
-        Ok(())
-    }
+// `t u {v} ..`
+pub(crate) fn application(
+    source: &Source<'_>,
+    values: &mut Vec<Value>,
+    place: At,
+) -> Result<(), OutOfMemory>
+    requires { AllFit (params by.Application) (sems source.now values.old) }
+    ensures { IfOk result (λ _. sems source.now values.new ≡ reduced by.Application place (sems source.now values.old)) }
+{
+    let function = take_term(values, source.alloc)?;
+    let arguments = pop(values).arguments(source.alloc)?;
+    let t = with_arguments(source.alloc, place, function, arguments)?;
+    push(values, Value::Term(t))?;
+    Ok(())
+}
 
-    // an argument
-    pub fn explicit_argument(&self, values: &mut Vec<Value>, place: At) -> Result<(), OutOfMemory>
-        requires { AllFit (params by.ExplicitArgument) (sems self.now values.old) }
-        ensures { IfOk result (λ _. sems self.now values.new ≡ reduced by.ExplicitArgument place (sems self.now values.old)) }
-    {
-        let term = take_term(values, self.alloc)?;
-        let argument = Argument {
-            implicit: false,
-            term,
-        };
-        push(values, Value::Argument(argument))?;
-        Ok(())
-    }
+// an argument
+pub(crate) fn explicit_argument(
+    source: &Source<'_>,
+    values: &mut Vec<Value>,
+    place: At,
+) -> Result<(), OutOfMemory>
+    requires { AllFit (params by.ExplicitArgument) (sems source.now values.old) }
+    ensures { IfOk result (λ _. sems source.now values.new ≡ reduced by.ExplicitArgument place (sems source.now values.old)) }
+{
+    let term = take_term(values, source.alloc)?;
+    let argument = Argument {
+        implicit: false,
+        term,
+    };
+    push(values, Value::Argument(argument))?;
+    Ok(())
+}
 
-    // an argument between braces
-    pub fn implicit_argument(&self, values: &mut Vec<Value>, place: At) -> Result<(), OutOfMemory>
-        requires { AllFit (params by.ImplicitArgument) (sems self.now values.old) }
-        ensures { IfOk result (λ _. sems self.now values.new ≡ reduced by.ImplicitArgument place (sems self.now values.old)) }
-    {
-        pop(values);
-        let term = take_term(values, self.alloc)?;
-        pop(values);
-        let argument = Argument {
-            implicit: true,
-            term,
-        };
-        push(values, Value::Argument(argument))?;
-        Ok(())
-    }
+// an argument between braces
+pub(crate) fn implicit_argument(
+    source: &Source<'_>,
+    values: &mut Vec<Value>,
+    place: At,
+) -> Result<(), OutOfMemory>
+    requires { AllFit (params by.ImplicitArgument) (sems source.now values.old) }
+    ensures { IfOk result (λ _. sems source.now values.new ≡ reduced by.ImplicitArgument place (sems source.now values.old)) }
+{
+    discard(values);
+    let term = take_term(values, source.alloc)?;
+    discard(values);
+    let argument = Argument {
+        implicit: true,
+        term,
+    };
+    push(values, Value::Argument(argument))?;
+    Ok(())
+}
 
-    // what its only symbol means
-    pub fn same(&self, values: &mut Vec<Value>, place: At) -> Result<(), OutOfMemory>
-        requires { AllFit (params by.Same) (sems self.now values.old) }
-        ensures { IfOk result (λ _. sems self.now values.new ≡ reduced by.Same place (sems self.now values.old)) }
-    {
-        Ok(())
-    }
+// what its only symbol means
+pub(crate) fn same(
+    source: &Source<'_>,
+    values: &mut Vec<Value>,
+    place: At,
+) -> Result<(), OutOfMemory>
+    requires { AllFit (params by.Same) (sems source.now values.old) }
+    ensures { IfOk result (λ _. sems source.now values.new ≡ reduced by.Same place (sems source.now values.old)) }
+{
+    Ok(())
+}
 
-    // a part behind a mark
-    pub fn behind(&self, values: &mut Vec<Value>, place: At) -> Result<(), OutOfMemory>
-        requires { AllFit (params by.Behind) (sems self.now values.old) }
-        ensures { IfOk result (λ _. sems self.now values.new ≡ reduced by.Behind place (sems self.now values.old)) }
-    {
-        pop(values);
-        let part = pop(values);
-        push(values, part)?;
-        Ok(())
-    }
+// a part behind a mark
+pub(crate) fn behind(
+    source: &Source<'_>,
+    values: &mut Vec<Value>,
+    place: At,
+) -> Result<(), OutOfMemory>
+    requires { AllFit (params by.Behind) (sems source.now values.old) }
+    ensures { IfOk result (λ _. sems source.now values.new ≡ reduced by.Behind place (sems source.now values.old)) }
+{
+    discard(values);
+    let part = pop(values);
+    push(values, part)?;
+    Ok(())
+}
 
-    // no symbol
-    pub fn empty(&self, values: &mut Vec<Value>, place: At) -> Result<(), OutOfMemory>
-        requires { AllFit (params by.Empty) (sems self.now values.old) }
-        ensures { IfOk result (λ _. sems self.now values.new ≡ reduced by.Empty place (sems self.now values.old)) }
-    {
-        push(values, Value::Nothing)?;
-        Ok(())
-    }
+// no symbol
+pub(crate) fn empty(
+    source: &Source<'_>,
+    values: &mut Vec<Value>,
+    place: At,
+) -> Result<(), OutOfMemory>
+    requires { AllFit (params by.Empty) (sems source.now values.old) }
+    ensures { IfOk result (λ _. sems source.now values.new ≡ reduced by.Empty place (sems source.now values.old)) }
+{
+    push(values, Value::Nothing)?;
+    Ok(())
 }

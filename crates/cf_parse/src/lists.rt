@@ -5,128 +5,166 @@ ghost use Rattle.cf_parse.specs.Evaluation.{reduced};
 ghost use Rattle.cf_parse.specs.Kinds.{AllFit, params};
 ghost use Rattle.cf_parse.specs.Values.{sems};
 
-use crate::ends::OutOfMemory;
-use crate::source::Source;
-use crate::values::{Value, pop, push};
+use crate::taking::take_token;
+use crate::values::{Value, discard, pop, push};
 use cf_base::At;
+use cf_syntax::{OutOfMemory, Source};
 
-impl Source<'_> {
-    // A declaration, and more of them.
-    pub fn first_declaration(&self, values: &mut Vec<Value>, place: At) -> Result<(), OutOfMemory>
-        requires { AllFit (params by.FirstDecl) (sems self.now values.old) }
-        ensures { IfOk result (λ _. sems self.now values.new ≡ reduced by.FirstDecl place (sems self.now values.old)) }
-    {
-        if let Value::Decl(first) = pop(values) {
-            let others = pop(values).decls(self.alloc)?;
-            push(values, Value::Decls(first, others))?;
-        }
-        Ok(())
+// A declaration, and more of them.
+pub(crate) fn first_declaration(
+    source: &Source<'_>,
+    values: &mut Vec<Value>,
+    place: At,
+) -> Result<(), OutOfMemory>
+    requires { AllFit (params by.FirstDecl) (sems source.now values.old) }
+    ensures { IfOk result (λ _. sems source.now values.new ≡ reduced by.FirstDecl place (sems source.now values.old)) }
+{
+    if let Value::Decl(first) = pop(values) {
+        let others = pop(values).decls(source.alloc)?;
+        push(values, Value::Decls(first, others))?;
     }
+    Ok(())
+}
 
-    // A parameter, and more of them.
-    pub fn first_parameter(&self, values: &mut Vec<Value>, place: At) -> Result<(), OutOfMemory>
-        requires { AllFit (params by.FirstParam) (sems self.now values.old) }
-        ensures { IfOk result (λ _. sems self.now values.new ≡ reduced by.FirstParam place (sems self.now values.old)) }
-    {
-        let first = pop(values).token();
-        let others = pop(values).names(self.alloc)?;
-        push(values, Value::Tokens(first, others))?;
-        Ok(())
-    }
+// A parameter, and more of them.
+pub(crate) fn first_parameter(
+    source: &Source<'_>,
+    values: &mut Vec<Value>,
+    place: At,
+) -> Result<(), OutOfMemory>
+    requires { AllFit (params by.FirstParam) (sems source.now values.old) }
+    ensures { IfOk result (λ _. sems source.now values.new ≡ reduced by.FirstParam place (sems source.now values.old)) }
+{
+    let first = take_token(values);
+    let others = pop(values).names(source.alloc)?;
+    push(values, Value::Tokens(first, others))?;
+    Ok(())
+}
 
-    // A constructor, and more of them.
-    pub fn first_constructor(&self, values: &mut Vec<Value>, place: At) -> Result<(), OutOfMemory>
-        requires { AllFit (params by.FirstCtor) (sems self.now values.old) }
-        ensures { IfOk result (λ _. sems self.now values.new ≡ reduced by.FirstCtor place (sems self.now values.old)) }
-    {
-        if let Value::Ctor(first) = pop(values) {
-            let others = pop(values).ctors(self.alloc)?;
-            push(values, Value::Ctors(first, others))?;
-        }
-        Ok(())
+// A constructor, and more of them.
+pub(crate) fn first_constructor(
+    source: &Source<'_>,
+    values: &mut Vec<Value>,
+    place: At,
+) -> Result<(), OutOfMemory>
+    requires { AllFit (params by.FirstCtor) (sems source.now values.old) }
+    ensures { IfOk result (λ _. sems source.now values.new ≡ reduced by.FirstCtor place (sems source.now values.old)) }
+{
+    if let Value::Ctor(first) = pop(values) {
+        let others = pop(values).ctors(source.alloc)?;
+        push(values, Value::Ctors(first, others))?;
     }
+    Ok(())
+}
 
-    // `| c`: a constructor behind a bar, and more of them.
-    pub fn next_constructor(&self, values: &mut Vec<Value>, place: At) -> Result<(), OutOfMemory>
-        requires { AllFit (params by.NextCtor) (sems self.now values.old) }
-        ensures { IfOk result (λ _. sems self.now values.new ≡ reduced by.NextCtor place (sems self.now values.old)) }
-    {
-        pop(values);
-        if let Value::Ctor(first) = pop(values) {
-            let others = pop(values).ctors(self.alloc)?;
-            push(values, Value::Ctors(first, others))?;
-        }
-        Ok(())
+// `| c`: a constructor behind a bar, and more of them.
+pub(crate) fn next_constructor(
+    source: &Source<'_>,
+    values: &mut Vec<Value>,
+    place: At,
+) -> Result<(), OutOfMemory>
+    requires { AllFit (params by.NextCtor) (sems source.now values.old) }
+    ensures { IfOk result (λ _. sems source.now values.new ≡ reduced by.NextCtor place (sems source.now values.old)) }
+{
+    discard(values);
+    if let Value::Ctor(first) = pop(values) {
+        let others = pop(values).ctors(source.alloc)?;
+        push(values, Value::Ctors(first, others))?;
     }
+    Ok(())
+}
 
-    // A term, and more of them.
-    pub fn first_term(&self, values: &mut Vec<Value>, place: At) -> Result<(), OutOfMemory>
-        requires { AllFit (params by.FirstTerm) (sems self.now values.old) }
-        ensures { IfOk result (λ _. sems self.now values.new ≡ reduced by.FirstTerm place (sems self.now values.old)) }
-    {
-        let first = pop(values).term(self.alloc)?;
-        let others = pop(values).terms(self.alloc)?;
-        push(values, Value::Terms(first, others))?;
-        Ok(())
-    }
+// A term, and more of them.
+pub(crate) fn first_term(
+    source: &Source<'_>,
+    values: &mut Vec<Value>,
+    place: At,
+) -> Result<(), OutOfMemory>
+    requires { AllFit (params by.FirstTerm) (sems source.now values.old) }
+    ensures { IfOk result (λ _. sems source.now values.new ≡ reduced by.FirstTerm place (sems source.now values.old)) }
+{
+    let first = pop(values).term(source.alloc)?;
+    let others = pop(values).terms(source.alloc)?;
+    push(values, Value::Terms(first, others))?;
+    Ok(())
+}
 
-    // `, t`: a term behind a comma, and more of them.
-    pub fn next_term(&self, values: &mut Vec<Value>, place: At) -> Result<(), OutOfMemory>
-        requires { AllFit (params by.NextTerm) (sems self.now values.old) }
-        ensures { IfOk result (λ _. sems self.now values.new ≡ reduced by.NextTerm place (sems self.now values.old)) }
-    {
-        pop(values);
-        let first = pop(values).term(self.alloc)?;
-        let others = pop(values).terms(self.alloc)?;
-        push(values, Value::Terms(first, others))?;
-        Ok(())
-    }
+// `, t`: a term behind a comma, and more of them.
+pub(crate) fn next_term(
+    source: &Source<'_>,
+    values: &mut Vec<Value>,
+    place: At,
+) -> Result<(), OutOfMemory>
+    requires { AllFit (params by.NextTerm) (sems source.now values.old) }
+    ensures { IfOk result (λ _. sems source.now values.new ≡ reduced by.NextTerm place (sems source.now values.old)) }
+{
+    discard(values);
+    let first = pop(values).term(source.alloc)?;
+    let others = pop(values).terms(source.alloc)?;
+    push(values, Value::Terms(first, others))?;
+    Ok(())
+}
 
-    // A branch, and more of them.
-    pub fn first_branch(&self, values: &mut Vec<Value>, place: At) -> Result<(), OutOfMemory>
-        requires { AllFit (params by.FirstBranch) (sems self.now values.old) }
-        ensures { IfOk result (λ _. sems self.now values.new ≡ reduced by.FirstBranch place (sems self.now values.old)) }
-    {
-        if let Value::Arm(first) = pop(values) {
-            let others = pop(values).arms(self.alloc)?;
-            push(values, Value::Arms(first, others))?;
-        }
-        Ok(())
+// A branch, and more of them.
+pub(crate) fn first_branch(
+    source: &Source<'_>,
+    values: &mut Vec<Value>,
+    place: At,
+) -> Result<(), OutOfMemory>
+    requires { AllFit (params by.FirstBranch) (sems source.now values.old) }
+    ensures { IfOk result (λ _. sems source.now values.new ≡ reduced by.FirstBranch place (sems source.now values.old)) }
+{
+    if let Value::Arm(first) = pop(values) {
+        let others = pop(values).arms(source.alloc)?;
+        push(values, Value::Arms(first, others))?;
     }
+    Ok(())
+}
 
-    // `| c x .. . t`: a branch behind a bar, and more of them.
-    pub fn next_branch(&self, values: &mut Vec<Value>, place: At) -> Result<(), OutOfMemory>
-        requires { AllFit (params by.NextBranch) (sems self.now values.old) }
-        ensures { IfOk result (λ _. sems self.now values.new ≡ reduced by.NextBranch place (sems self.now values.old)) }
-    {
-        pop(values);
-        if let Value::Arm(first) = pop(values) {
-            let others = pop(values).arms(self.alloc)?;
-            push(values, Value::Arms(first, others))?;
-        }
-        Ok(())
+// `| c x .. . t`: a branch behind a bar, and more of them.
+pub(crate) fn next_branch(
+    source: &Source<'_>,
+    values: &mut Vec<Value>,
+    place: At,
+) -> Result<(), OutOfMemory>
+    requires { AllFit (params by.NextBranch) (sems source.now values.old) }
+    ensures { IfOk result (λ _. sems source.now values.new ≡ reduced by.NextBranch place (sems source.now values.old)) }
+{
+    discard(values);
+    if let Value::Arm(first) = pop(values) {
+        let others = pop(values).arms(source.alloc)?;
+        push(values, Value::Arms(first, others))?;
     }
+    Ok(())
+}
 
-    // An argument, and more of them.
-    pub fn first_argument(&self, values: &mut Vec<Value>, place: At) -> Result<(), OutOfMemory>
-        requires { AllFit (params by.FirstArgument) (sems self.now values.old) }
-        ensures { IfOk result (λ _. sems self.now values.new ≡ reduced by.FirstArgument place (sems self.now values.old)) }
-    {
-        if let Value::Argument(first) = pop(values) {
-            let others = pop(values).arguments(self.alloc)?;
-            push(values, Value::Arguments(first, others))?;
-        }
-        Ok(())
+// An argument, and more of them.
+pub(crate) fn first_argument(
+    source: &Source<'_>,
+    values: &mut Vec<Value>,
+    place: At,
+) -> Result<(), OutOfMemory>
+    requires { AllFit (params by.FirstArgument) (sems source.now values.old) }
+    ensures { IfOk result (λ _. sems source.now values.new ≡ reduced by.FirstArgument place (sems source.now values.old)) }
+{
+    if let Value::Argument(first) = pop(values) {
+        let others = pop(values).arguments(source.alloc)?;
+        push(values, Value::Arguments(first, others))?;
     }
+    Ok(())
+}
 
-    // A binder, and more of them.
-    pub fn first_binder(&self, values: &mut Vec<Value>, place: At) -> Result<(), OutOfMemory>
-        requires { AllFit (params by.FirstBinder) (sems self.now values.old) }
-        ensures { IfOk result (λ _. sems self.now values.new ≡ reduced by.FirstBinder place (sems self.now values.old)) }
-    {
-        let first = pop(values).binder();
-        let others = pop(values).binders(self.alloc)?;
-        push(values, Value::Binders(first, others))?;
-        Ok(())
-    }
+// A binder, and more of them.
+pub(crate) fn first_binder(
+    source: &Source<'_>,
+    values: &mut Vec<Value>,
+    place: At,
+) -> Result<(), OutOfMemory>
+    requires { AllFit (params by.FirstBinder) (sems source.now values.old) }
+    ensures { IfOk result (λ _. sems source.now values.new ≡ reduced by.FirstBinder place (sems source.now values.old)) }
+{
+    let first = pop(values).binder();
+    let others = pop(values).binders(source.alloc)?;
+    push(values, Value::Binders(first, others))?;
+    Ok(())
 }

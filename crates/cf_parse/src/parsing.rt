@@ -1,12 +1,11 @@
 // Reads the tokens of a text as a program.
 ghost use Rattle.std.specs.Prelude.{IfErr, IfOk};
 ghost use Rattle.cf_parse.specs.Reads.{Reads};
-ghost use Rattle.cf_parse.specs.Refusals.{IsRefused};
+ghost use Rattle.cf_syntax.specs.Refusals.{IsRefused};
 
-use crate::ends::ParseEnd;
-use crate::source::Source;
-use cf_grammar::walk;
+use crate::building::built;
 use cf_lex::Tokens;
+use cf_syntax::{ParseEnd, Source, judge};
 use cf_tree::Program;
 use std::alloc::Global;
 
@@ -24,17 +23,8 @@ pub fn parse(alloc: Global, t: &Tokens, prelude: bool) -> Result<Program, ParseE
         tokens: t,
         prelude,
     };
-    let Ok(classes) = source.classes() else {
-        return Err(ParseEnd::NoMemory);
-    };
-    let Ok(walked) = walk(alloc, classes.as_slice()) else {
-        return Err(ParseEnd::NoMemory);
-    };
-    let literal = source.first_literal();
-    if let Err(end) = source.judged(walked.ending, literal) {
-        return Err(end);
-    }
-    match source.built(walked.steps) {
+    let steps = judge(&source)?;
+    match built(&source, steps) {
         Ok(program) => Ok(program),
         Err(_) => Err(ParseEnd::NoMemory),
     }

@@ -3,8 +3,8 @@ ghost use Rattle.std.specs.Prelude.{◌≡◌, IfOk};
 ghost use Rattle.cf_parse.specs.Meaning.{missing, or_missing};
 ghost use Rattle.cf_parse.specs.Values.{tree_in};
 
-use crate::ends::OutOfMemory;
 use cf_base::At;
+use cf_syntax::OutOfMemory;
 use cf_tree::{Node, Tree};
 use std::alloc::Global;
 

@@ -10,11 +10,11 @@ ghost use Rattle.cf_parse.specs.Meaning.{Sem, or_missing};
 ghost use Rattle.cf_parse.specs.Meaning as meant;
 ghost use Rattle.cf_parse.specs.Values.{arm_of, binder_sem, domain_of, optional_onto, sems, term_of, tree_in};
 
-use crate::ends::OutOfMemory;
 use crate::parts::{Domain, or_missing};
-use crate::source::Source;
-use crate::values::{Value, pop, push};
+use crate::taking::take_named;
+use crate::values::{Value, discard, pop, push};
 use cf_base::At;
+use cf_syntax::{OutOfMemory, Source};
 use cf_tree::{Branch, Definition, Named, Node, Tree};
 use std::alloc::Global;
 
@@ -247,183 +247,229 @@ fn arrow_tree(
     }
 }
 
-impl Source<'_> {
-    // `\x. t`
-    pub fn lambda(&self, values: &mut Vec<Value>, place: At) -> Result<(), OutOfMemory>
-        requires { AllFit (params by.Lambda) (sems self.now values.old) }
-        ensures { IfOk result (λ _. sems self.now values.new ≡ reduced by.Lambda place (sems self.now values.old)) }
-    {
-        pop(values);
-        let domain = pop(values).domain();
-        pop(values);
-        let body = pop(values).term(self.alloc)?;
-        let tree = lambda_tree(self.alloc, place, domain, body)?;
-        push(values, Value::Term(tree))?;
-        Ok(())
-    }
+// `\x. t`
+pub(crate) fn lambda(
+    source: &Source<'_>,
+    values: &mut Vec<Value>,
+    place: At,
+) -> Result<(), OutOfMemory>
+    requires { AllFit (params by.Lambda) (sems source.now values.old) }
+    ensures { IfOk result (λ _. sems source.now values.new ≡ reduced by.Lambda place (sems source.now values.old)) }
+{
+    discard(values);
+    let domain = pop(values).domain();
+    discard(values);
+    let body = pop(values).term(source.alloc)?;
+    let tree = lambda_tree(source.alloc, place, domain, body)?;
+    push(values, Value::Term(tree))?;
+    Ok(())
+}
 
-    // `fn (x : a). t`
-    pub fn function(&self, values: &mut Vec<Value>, place: At) -> Result<(), OutOfMemory>
-        requires { AllFit (params by.Function) (sems self.now values.old) }
-        ensures { IfOk result (λ _. sems self.now values.new ≡ reduced by.Function place (sems self.now values.old)) }
-    {
-        pop(values);
-        let domain = pop(values).domain();
-        pop(values);
-        let body = pop(values).term(self.alloc)?;
-        let tree = function_tree(self.alloc, place, domain, body)?;
-        push(values, Value::Term(tree))?;
-        Ok(())
-    }
+// `fn (x : a). t`
+pub(crate) fn function(
+    source: &Source<'_>,
+    values: &mut Vec<Value>,
+    place: At,
+) -> Result<(), OutOfMemory>
+    requires { AllFit (params by.Function) (sems source.now values.old) }
+    ensures { IfOk result (λ _. sems source.now values.new ≡ reduced by.Function place (sems source.now values.old)) }
+{
+    discard(values);
+    let domain = pop(values).domain();
+    discard(values);
+    let body = pop(values).term(source.alloc)?;
+    let tree = function_tree(source.alloc, place, domain, body)?;
+    push(values, Value::Term(tree))?;
+    Ok(())
+}
 
-    // `Pi (x : a) -> b`
-    pub fn function_type(&self, values: &mut Vec<Value>, place: At) -> Result<(), OutOfMemory>
-        requires { AllFit (params by.Pi) (sems self.now values.old) }
-        ensures { IfOk result (λ _. sems self.now values.new ≡ reduced by.Pi place (sems self.now values.old)) }
-    {
-        pop(values);
-        let domain = pop(values).domain();
-        pop(values);
-        let codomain = pop(values).term(self.alloc)?;
-        let tree = function_type_tree(self.alloc, place, domain, codomain)?;
-        push(values, Value::Term(tree))?;
-        Ok(())
-    }
+// `Pi (x : a) -> b`
+pub(crate) fn function_type(
+    source: &Source<'_>,
+    values: &mut Vec<Value>,
+    place: At,
+) -> Result<(), OutOfMemory>
+    requires { AllFit (params by.Pi) (sems source.now values.old) }
+    ensures { IfOk result (λ _. sems source.now values.new ≡ reduced by.Pi place (sems source.now values.old)) }
+{
+    discard(values);
+    let domain = pop(values).domain();
+    discard(values);
+    let codomain = pop(values).term(source.alloc)?;
+    let tree = function_type_tree(source.alloc, place, domain, codomain)?;
+    push(values, Value::Term(tree))?;
+    Ok(())
+}
 
-    // `mlet x : a := t; u`
-    pub fn meta_let(&self, values: &mut Vec<Value>, place: At) -> Result<(), OutOfMemory>
-        requires { AllFit (params by.Let) (sems self.now values.old) }
-        ensures { IfOk result (λ _. sems self.now values.new ≡ reduced by.Let place (sems self.now values.old)) }
-    {
-        pop(values);
-        let binder = pop(values).binder();
-        pop(values);
-        let ty = pop(values).term(self.alloc)?;
-        pop(values);
-        let value = pop(values).term(self.alloc)?;
-        pop(values);
-        let body = pop(values).term(self.alloc)?;
-        let tree = meta_let_tree(self.alloc, place, binder, ty, value, body)?;
-        push(values, Value::Term(tree))?;
-        Ok(())
-    }
+// `mlet x : a := t; u`
+pub(crate) fn meta_let(
+    source: &Source<'_>,
+    values: &mut Vec<Value>,
+    place: At,
+) -> Result<(), OutOfMemory>
+    requires { AllFit (params by.Let) (sems source.now values.old) }
+    ensures { IfOk result (λ _. sems source.now values.new ≡ reduced by.Let place (sems source.now values.old)) }
+{
+    discard(values);
+    let binder = pop(values).binder();
+    discard(values);
+    let ty = pop(values).term(source.alloc)?;
+    discard(values);
+    let value = pop(values).term(source.alloc)?;
+    discard(values);
+    let body = pop(values).term(source.alloc)?;
+    let tree = meta_let_tree(source.alloc, place, binder, ty, value, body)?;
+    push(values, Value::Term(tree))?;
+    Ok(())
+}
 
-    // `let x : a := t; u`
-    pub fn value_let(&self, values: &mut Vec<Value>, place: At) -> Result<(), OutOfMemory>
-        requires { AllFit (params by.LetV) (sems self.now values.old) }
-        ensures { IfOk result (λ _. sems self.now values.new ≡ reduced by.LetV place (sems self.now values.old)) }
-    {
-        pop(values);
-        let binder = pop(values).binder();
-        pop(values);
-        let ty = pop(values).term(self.alloc)?;
-        pop(values);
-        let value = pop(values).term(self.alloc)?;
-        pop(values);
-        let body = pop(values).term(self.alloc)?;
-        let tree = value_let_tree(self.alloc, place, binder, ty, value, body)?;
-        push(values, Value::Term(tree))?;
-        Ok(())
-    }
+// `let x : a := t; u`
+pub(crate) fn value_let(
+    source: &Source<'_>,
+    values: &mut Vec<Value>,
+    place: At,
+) -> Result<(), OutOfMemory>
+    requires { AllFit (params by.LetV) (sems source.now values.old) }
+    ensures { IfOk result (λ _. sems source.now values.new ≡ reduced by.LetV place (sems source.now values.old)) }
+{
+    discard(values);
+    let binder = pop(values).binder();
+    discard(values);
+    let ty = pop(values).term(source.alloc)?;
+    discard(values);
+    let value = pop(values).term(source.alloc)?;
+    discard(values);
+    let body = pop(values).term(source.alloc)?;
+    let tree = value_let_tree(source.alloc, place, binder, ty, value, body)?;
+    push(values, Value::Term(tree))?;
+    Ok(())
+}
 
-    // `letrec x : a := t; u`
-    pub fn recursion(&self, values: &mut Vec<Value>, place: At) -> Result<(), OutOfMemory>
-        requires { AllFit (params by.LetRec) (sems self.now values.old) }
-        ensures { IfOk result (λ _. sems self.now values.new ≡ reduced by.LetRec place (sems self.now values.old)) }
-    {
-        pop(values);
-        let binder = pop(values).binder();
-        pop(values);
-        let ty = pop(values).term(self.alloc)?;
-        pop(values);
-        let value = pop(values).term(self.alloc)?;
-        pop(values);
-        let body = pop(values).term(self.alloc)?;
-        let tree = recursion_tree(self.alloc, place, binder, ty, value, body)?;
-        push(values, Value::Term(tree))?;
-        Ok(())
-    }
+// `letrec x : a := t; u`
+pub(crate) fn recursion(
+    source: &Source<'_>,
+    values: &mut Vec<Value>,
+    place: At,
+) -> Result<(), OutOfMemory>
+    requires { AllFit (params by.LetRec) (sems source.now values.old) }
+    ensures { IfOk result (λ _. sems source.now values.new ≡ reduced by.LetRec place (sems source.now values.old)) }
+{
+    discard(values);
+    let binder = pop(values).binder();
+    discard(values);
+    let ty = pop(values).term(source.alloc)?;
+    discard(values);
+    let value = pop(values).term(source.alloc)?;
+    discard(values);
+    let body = pop(values).term(source.alloc)?;
+    let tree = recursion_tree(source.alloc, place, binder, ty, value, body)?;
+    push(values, Value::Term(tree))?;
+    Ok(())
+}
 
-    // `Sig (x : a), b`
-    pub fn pair_type(&self, values: &mut Vec<Value>, place: At) -> Result<(), OutOfMemory>
-        requires { AllFit (params by.Sig) (sems self.now values.old) }
-        ensures { IfOk result (λ _. sems self.now values.new ≡ reduced by.Sig place (sems self.now values.old)) }
-    {
-        pop(values);
-        pop(values);
-        let binder = pop(values).binder();
-        pop(values);
-        let first = pop(values).term(self.alloc)?;
-        pop(values);
-        pop(values);
-        let second = pop(values).term(self.alloc)?;
-        let tree = pair_type_tree(self.alloc, place, binder, first, second)?;
-        push(values, Value::Term(tree))?;
-        Ok(())
-    }
+// `Sig (x : a), b`
+pub(crate) fn pair_type(
+    source: &Source<'_>,
+    values: &mut Vec<Value>,
+    place: At,
+) -> Result<(), OutOfMemory>
+    requires { AllFit (params by.Sig) (sems source.now values.old) }
+    ensures { IfOk result (λ _. sems source.now values.new ≡ reduced by.Sig place (sems source.now values.old)) }
+{
+    discard(values);
+    discard(values);
+    let binder = pop(values).binder();
+    discard(values);
+    let first = pop(values).term(source.alloc)?;
+    discard(values);
+    discard(values);
+    let second = pop(values).term(source.alloc)?;
+    let tree = pair_type_tree(source.alloc, place, binder, first, second)?;
+    push(values, Value::Term(tree))?;
+    Ok(())
+}
 
-    // `case t : a of { .. }`
-    pub fn cases(&self, values: &mut Vec<Value>, place: At) -> Result<(), OutOfMemory>
-        requires { AllFit (params by.Case) (sems self.now values.old) }
-        ensures { IfOk result (λ _. sems self.now values.new ≡ reduced by.Case place (sems self.now values.old)) }
-    {
-        pop(values);
-        let scrutinee = pop(values).term(self.alloc)?;
-        let ty = pop(values).optional_term();
-        pop(values);
-        pop(values);
-        let arms = pop(values).arms(self.alloc)?;
-        pop(values);
-        let tree = cases_tree(self.alloc, place, scrutinee, ty, arms)?;
-        push(values, Value::Term(tree))?;
-        Ok(())
-    }
+// `case t : a of { .. }`
+pub(crate) fn cases(
+    source: &Source<'_>,
+    values: &mut Vec<Value>,
+    place: At,
+) -> Result<(), OutOfMemory>
+    requires { AllFit (params by.Case) (sems source.now values.old) }
+    ensures { IfOk result (λ _. sems source.now values.new ≡ reduced by.Case place (sems source.now values.old)) }
+{
+    discard(values);
+    let scrutinee = pop(values).term(source.alloc)?;
+    let ty = pop(values).optional_term();
+    discard(values);
+    discard(values);
+    let arms = pop(values).arms(source.alloc)?;
+    discard(values);
+    let tree = cases_tree(source.alloc, place, scrutinee, ty, arms)?;
+    push(values, Value::Term(tree))?;
+    Ok(())
+}
 
-    // `c x .. . t`
-    pub fn branch(&self, values: &mut Vec<Value>, place: At) -> Result<(), OutOfMemory>
-        requires { AllFit (params by.Branch) (sems self.now values.old) }
-        ensures { IfOk result (λ _. sems self.now values.new ≡ reduced by.Branch place (sems self.now values.old)) }
-    {
-        let ctor = self.take_named(values)?;
-        let names = pop(values).binders(self.alloc)?;
-        pop(values);
-        let body = pop(values).term(self.alloc)?;
-        let arm = new_arm(self.alloc, ctor, names, body)?;
-        push(values, Value::Arm(arm))?;
-        Ok(())
-    }
+// `c x .. . t`
+pub(crate) fn branch(
+    source: &Source<'_>,
+    values: &mut Vec<Value>,
+    place: At,
+) -> Result<(), OutOfMemory>
+    requires { AllFit (params by.Branch) (sems source.now values.old) }
+    ensures { IfOk result (λ _. sems source.now values.new ≡ reduced by.Branch place (sems source.now values.old)) }
+{
+    let ctor = take_named(source, values)?;
+    let names = pop(values).binders(source.alloc)?;
+    discard(values);
+    let body = pop(values).term(source.alloc)?;
+    let arm = new_arm(source.alloc, ctor, names, body)?;
+    push(values, Value::Arm(arm))?;
+    Ok(())
+}
 
-    // a term, and maybe an arrow behind it
-    pub fn arrow(&self, values: &mut Vec<Value>, place: At) -> Result<(), OutOfMemory>
-        requires { AllFit (params by.Arrow) (sems self.now values.old) }
-        ensures { IfOk result (λ _. sems self.now values.new ≡ reduced by.Arrow place (sems self.now values.old)) }
-    {
-        let domain = pop(values).term(self.alloc)?;
-        let onto = pop(values).onto();
-        let tree = arrow_tree(self.alloc, place, domain, onto)?;
-        push(values, Value::Term(tree))?;
-        Ok(())
-    }
+// a term, and maybe an arrow behind it
+pub(crate) fn arrow(
+    source: &Source<'_>,
+    values: &mut Vec<Value>,
+    place: At,
+) -> Result<(), OutOfMemory>
+    requires { AllFit (params by.Arrow) (sems source.now values.old) }
+    ensures { IfOk result (λ _. sems source.now values.new ≡ reduced by.Arrow place (sems source.now values.old)) }
+{
+    let domain = pop(values).term(source.alloc)?;
+    let onto = pop(values).onto();
+    let tree = arrow_tree(source.alloc, place, domain, onto)?;
+    push(values, Value::Term(tree))?;
+    Ok(())
+}
 
-    // `-> b`
-    pub fn onto_meta(&self, values: &mut Vec<Value>, place: At) -> Result<(), OutOfMemory>
-        requires { AllFit (params by.OntoMeta) (sems self.now values.old) }
-        ensures { IfOk result (λ _. sems self.now values.new ≡ reduced by.OntoMeta place (sems self.now values.old)) }
-    {
-        pop(values);
-        let codomain = pop(values).term(self.alloc)?;
-        push(values, Value::Onto(false, codomain))?;
-        Ok(())
-    }
+// `-> b`
+pub(crate) fn onto_meta(
+    source: &Source<'_>,
+    values: &mut Vec<Value>,
+    place: At,
+) -> Result<(), OutOfMemory>
+    requires { AllFit (params by.OntoMeta) (sems source.now values.old) }
+    ensures { IfOk result (λ _. sems source.now values.new ≡ reduced by.OntoMeta place (sems source.now values.old)) }
+{
+    discard(values);
+    let codomain = pop(values).term(source.alloc)?;
+    push(values, Value::Onto(false, codomain))?;
+    Ok(())
+}
 
-    // `=> b`
-    pub fn onto_object(&self, values: &mut Vec<Value>, place: At) -> Result<(), OutOfMemory>
-        requires { AllFit (params by.OntoObject) (sems self.now values.old) }
-        ensures { IfOk result (λ _. sems self.now values.new ≡ reduced by.OntoObject place (sems self.now values.old)) }
-    {
-        pop(values);
-        let codomain = pop(values).term(self.alloc)?;
-        push(values, Value::Onto(true, codomain))?;
-        Ok(())
-    }
+// `=> b`
+pub(crate) fn onto_object(
+    source: &Source<'_>,
+    values: &mut Vec<Value>,
+    place: At,
+) -> Result<(), OutOfMemory>
+    requires { AllFit (params by.OntoObject) (sems source.now values.old) }
+    ensures { IfOk result (λ _. sems source.now values.new ≡ reduced by.OntoObject place (sems source.now values.old)) }
+{
+    discard(values);
+    let codomain = pop(values).term(source.alloc)?;
+    push(values, Value::Onto(true, codomain))?;
+    Ok(())
 }

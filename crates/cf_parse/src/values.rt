@@ -2,12 +2,12 @@
 ghost use Rattle.std.specs.Prelude.{◌≡◌, ◌∷◌, ℕ, List, IfOk, Some, map, option_map, reverse};
 ghost use Rattle.cf_parse.specs.Kinds as kind;
 ghost use Rattle.cf_parse.specs.Kinds.{AllFit, Fits, IsToken};
-ghost use Rattle.cf_parse.specs.Meaning.{program_in};
+ghost use Rattle.cf_parse.specs.Meaning.{Sem, program_in};
 ghost use Rattle.cf_parse.specs.Values.{Taken, arm_of, argument_of, binder_sem, ctor_sem, decl_sem, domain_of, listed, optional_brackets, optional_onto, optional_term, sem, sems, term_of, token_of};
-ghost use Rattle.cf_parse.specs.declared.source.Source as source;
+ghost use Rattle.cf_syntax.specs.declared.source.Source as sources;
 
-use crate::ends::OutOfMemory;
 use crate::parts::{Argument, Domain, missing, nowhere};
+use cf_syntax::OutOfMemory;
 use cf_tree::{Branch, CtorTree, Decl, Program, Tree};
 use std::alloc::Global;
 
@@ -42,7 +42,7 @@ pub(crate) enum Value {
 
 // Takes the topmost value.
 pub(crate) fn pop(values: &mut Vec<Value>) -> Value
-    ensures { (s : source.Source) (j : kind.Kind) → Taken j (sems s values.old) (sem s result) (sems s values.new) }
+    ensures { (s : sources.Source) (j : kind.Kind) → Taken j (sems s values.old) (sem s result) (sems s values.new) }
 {
     match values.pop() {
         Some(value) => value,
@@ -50,9 +50,16 @@ pub(crate) fn pop(values: &mut Vec<Value>) -> Value
     }
 }
 
+// Takes the topmost value away.
+pub(crate) fn discard(values: &mut Vec<Value>)
+    ensures { (s : sources.Source) → (v : Sem) × ((j : kind.Kind) → Taken j (sems s values.old) v (sems s values.new)) }
+{
+    pop(values);
+}
+
 // Puts a value on top.
 pub(crate) fn push(values: &mut Vec<Value>, value: Value) -> Result<(), OutOfMemory>
-    ensures { IfOk result (λ _. (s : source.Source) → sems s values.new ≡ sem s value ∷ sems s values.old) }
+    ensures { IfOk result (λ _. (s : sources.Source) → sems s values.new ≡ sem s value ∷ sems s values.old) }
 {
     values.push(value)?;
     Ok(())
@@ -61,7 +68,7 @@ pub(crate) fn push(values: &mut Vec<Value>, value: Value) -> Result<(), OutOfMem
 impl Value {
     // The term that it is.
     pub fn term(self, alloc: Global) -> Result<Box<Tree>, OutOfMemory>
-        ensures { IfOk result (λ t. (s : source.Source) → Fits kind.Term (sem s self) → sem s self ≡ term_of t.value) }
+        ensures { IfOk result (λ t. (s : sources.Source) → Fits kind.Term (sem s self) → sem s self ≡ term_of t.value) }
     {
         match self {
             Value::Term(t) => Ok(t),
@@ -71,7 +78,7 @@ impl Value {
 
     // The binder that it is.
     pub fn binder(self) -> Option<String>
-        ensures { (s : source.Source) → Fits kind.Binder (sem s self) → sem s self ≡ binder_sem result }
+        ensures { (s : sources.Source) → Fits kind.Binder (sem s self) → sem s self ≡ binder_sem result }
     {
         match self {
             Value::Binder(b) => b,
@@ -81,7 +88,7 @@ impl Value {
 
     // The binder with its type that it is.
     pub fn domain(self) -> Domain
-        ensures { (s : source.Source) → Fits kind.Domain (sem s self) → sem s self ≡ domain_of result }
+        ensures { (s : sources.Source) → Fits kind.Domain (sem s self) → sem s self ≡ domain_of result }
     {
         match self {
             Value::Domain(d) => d,
@@ -95,7 +102,7 @@ impl Value {
 
     // The number of the token that it is.
     pub fn token(&self) -> usize
-        ensures { (s : source.Source) (j : kind.Kind) → IsToken j → Fits j (sem s self.now) → sem s self.now ≡ token_of s result }
+        ensures { (s : sources.Source) (j : kind.Kind) → IsToken j → Fits j (sem s self.now) → sem s self.now ≡ token_of s result }
     {
         match self {
             Value::Token(at) => *at,
@@ -105,7 +112,7 @@ impl Value {
 
     // The numbers of the names of a list, the last one first.
     pub fn names(self, alloc: Global) -> Result<Vec<usize>, OutOfMemory>
-        ensures { IfOk result (λ v. (s : source.Source) → Fits (kind.Many kind.Name) (sem s self) → sem s self ≡ listed (map (token_of s) (reverse v.items))) }
+        ensures { IfOk result (λ v. (s : sources.Source) → Fits (kind.Many kind.Name) (sem s self) → sem s self ≡ listed (map (token_of s) (reverse v.items))) }
     {
         match self {
             Value::Tokens(first, others) => {
@@ -119,7 +126,7 @@ impl Value {
 
     // The terms of a list, the last one first.
     pub fn terms(self, alloc: Global) -> Result<Vec<Tree>, OutOfMemory>
-        ensures { IfOk result (λ v. (s : source.Source) → Fits (kind.Many kind.Term) (sem s self) → sem s self ≡ listed (map (term_of) (reverse v.items))) }
+        ensures { IfOk result (λ v. (s : sources.Source) → Fits (kind.Many kind.Term) (sem s self) → sem s self ≡ listed (map (term_of) (reverse v.items))) }
     {
         match self {
             Value::Terms(first, others) => {
@@ -133,7 +140,7 @@ impl Value {
 
     // The binders of a list, the last one first.
     pub fn binders(self, alloc: Global) -> Result<Vec<Option<String>>, OutOfMemory>
-        ensures { IfOk result (λ v. (s : source.Source) → Fits (kind.Many kind.Binder) (sem s self) → sem s self ≡ listed (map (binder_sem) (reverse v.items))) }
+        ensures { IfOk result (λ v. (s : sources.Source) → Fits (kind.Many kind.Binder) (sem s self) → sem s self ≡ listed (map (binder_sem) (reverse v.items))) }
     {
         match self {
             Value::Binders(first, others) => {
@@ -147,7 +154,7 @@ impl Value {
 
     // The arguments of a list, the last one first.
     pub fn arguments(self, alloc: Global) -> Result<Vec<Argument>, OutOfMemory>
-        ensures { IfOk result (λ v. (s : source.Source) → Fits (kind.Many kind.Argument) (sem s self) → sem s self ≡ listed (map (argument_of) (reverse v.items))) }
+        ensures { IfOk result (λ v. (s : sources.Source) → Fits (kind.Many kind.Argument) (sem s self) → sem s self ≡ listed (map (argument_of) (reverse v.items))) }
     {
         match self {
             Value::Arguments(first, others) => {
@@ -161,7 +168,7 @@ impl Value {
 
     // The arms of a list, the last one first.
     pub fn arms(self, alloc: Global) -> Result<Vec<Branch>, OutOfMemory>
-        ensures { IfOk result (λ v. (s : source.Source) → Fits (kind.Many kind.Arm) (sem s self) → sem s self ≡ listed (map (arm_of) (reverse v.items))) }
+        ensures { IfOk result (λ v. (s : sources.Source) → Fits (kind.Many kind.Arm) (sem s self) → sem s self ≡ listed (map (arm_of) (reverse v.items))) }
     {
         match self {
             Value::Arms(first, others) => {
@@ -175,7 +182,7 @@ impl Value {
 
     // The constructors of a list, the last one first.
     pub fn ctors(self, alloc: Global) -> Result<Vec<CtorTree>, OutOfMemory>
-        ensures { IfOk result (λ v. (s : source.Source) → Fits (kind.Many kind.Ctor) (sem s self) → sem s self ≡ listed (map (ctor_sem) (reverse v.items))) }
+        ensures { IfOk result (λ v. (s : sources.Source) → Fits (kind.Many kind.Ctor) (sem s self) → sem s self ≡ listed (map (ctor_sem) (reverse v.items))) }
     {
         match self {
             Value::Ctors(first, others) => {
@@ -189,7 +196,7 @@ impl Value {
 
     // The declarations of a list, the last one first.
     pub fn decls(self, alloc: Global) -> Result<Vec<Decl>, OutOfMemory>
-        ensures { IfOk result (λ v. (s : source.Source) → Fits (kind.Many kind.Decl) (sem s self) → sem s self ≡ listed (map (decl_sem) (reverse v.items))) }
+        ensures { IfOk result (λ v. (s : sources.Source) → Fits (kind.Many kind.Decl) (sem s self) → sem s self ≡ listed (map (decl_sem) (reverse v.items))) }
     {
         match self {
             Value::Decls(first, others) => {
@@ -203,7 +210,7 @@ impl Value {
 
     // The term that it is, if it is one.
     pub fn optional_term(self) -> Option<Box<Tree>>
-        ensures { (s : source.Source) → Fits (kind.Maybe kind.Term) (sem s self) → sem s self ≡ optional_term result }
+        ensures { (s : sources.Source) → Fits (kind.Maybe kind.Term) (sem s self) → sem s self ≡ optional_term result }
     {
         match self {
             Value::Term(t) => Some(t),
@@ -213,7 +220,7 @@ impl Value {
 
     // What stands behind an arrow, if one does; true behind `=>`.
     pub fn onto(self) -> Option<(bool, Box<Tree>)>
-        ensures { (s : source.Source) → Fits (kind.Maybe kind.Onto) (sem s self) → sem s self ≡ optional_onto result }
+        ensures { (s : sources.Source) → Fits (kind.Maybe kind.Onto) (sem s self) → sem s self ≡ optional_onto result }
     {
         match self {
             Value::Onto(object, t) => Some((object, t)),
@@ -223,7 +230,7 @@ impl Value {
 
     // The terms between brackets, if brackets are written.
     pub fn bracketed(self) -> Option<Vec<Tree>>
-        ensures { (s : source.Source) → Fits (kind.Maybe kind.Bracketed) (sem s self) → sem s self ≡ optional_brackets result }
+        ensures { (s : sources.Source) → Fits (kind.Maybe kind.Bracketed) (sem s self) → sem s self ≡ optional_brackets result }
     {
         match self {
             Value::Bracketed(ts) => Some(ts),
@@ -233,7 +240,7 @@ impl Value {
 
     // The program that it is, which is the empty one if nothing is written.
     pub fn program(self, alloc: Global) -> Program
-        ensures { (s : source.Source) → Fits (kind.Maybe kind.Program) (sem s self) → program_in (sem s self) ≡ Some result }
+        ensures { (s : sources.Source) → Fits (kind.Maybe kind.Program) (sem s self) → program_in (sem s self) ≡ Some result }
     {
         match self {
             Value::Program(p) => p,

@@ -9,6 +9,7 @@ use Rattle.cf_tree.specs.declared.heads.Head.TheVariants as head
 use Rattle.cf_tree.specs.Tree as trees
 use Rattle.cf_tree.specs.Tree.{Binder, Named, Plain, Tree, Trees, tree}
 use Rattle.cf_term.specs.Core.{Tm, Tms, cons, nil, node, Branch, CaseH}
+use Rattle.cf_syntax.specs.Places.{place}
 use Rattle.cf_parse.specs.Meaning.{Sem, arms_in, binders_in}
 use Rattle.cf_parse.specs.Meaning as meant
 use Rattle.cf_elab.specs.Scope.{Globals, ctor_of, under}
@@ -99,7 +100,7 @@ module _ (N : Names) (g : Globals) (finds : Finds N g) where
       (g_token N (piece.Ctor b.type b.ctor) _ Takes.any_name
       (g_both N (bound_names G d b.names) (piece.Mark sign.Dot ∷ f.pieces) (binders_form b.names m d q)
       (g_token N (piece.Mark sign.Dot) f.pieces Takes.exact (g_last N f.pieces (h (suc e)))))))
-      (λ x. (record { at = meant.place false x.1.0; name = ctor_name N b.type b.ctor }, binders_in x.1.1.0.0, x.1.1.1.1.0, refl, x.1.1.0.1, x.1.1.1.1.1))
+      (λ x. (record { at = place false x.1.0; name = ctor_name N b.type b.ctor }, binders_in x.1.1.0.0, x.1.1.1.1.0, refl, x.1.1.0.1, x.1.1.1.1.1))
       (λ x. refl)
 
   -- each printed body is the term beside it, and its constructor may be used

@@ -12,9 +12,10 @@ use Rattle.cf_grammar.specs.declared.phrases.Symbol.{Symbol}
 use Rattle.cf_grammar.specs.declared.phrases.Symbol.TheVariants.{Phrase as a}
 use Rattle.cf_tree.specs.Tree.{DeclTree, Program, is_explicit}
 use Rattle.cf_parse.specs.Derivation.{Cst, Csts, Parses, ParsesAll, token, phrase as opened, none, both}
-use Rattle.cf_parse.specs.Meaning.{Sem, meaning, place, program_in, program_of, values}
+use Rattle.cf_syntax.specs.Places.{place}
+use Rattle.cf_parse.specs.Meaning.{Sem, meaning, program_in, program_of, values}
 use Rattle.cf_parse.specs.Reads.{within, within_all, within_limit}
-use Rattle.cf_parse.specs.Tokens.{Token, tokens_of}
+use Rattle.cf_syntax.specs.Tokens.{Token, tokens_of}
 use Rattle.cf_elab.specs.Core.{declare_all}
 use Rattle.cf_elab.specs.Scope.{start}
 use Rattle.cf_printed.specs.Laws.{CoresAreScoped}

@@ -14,9 +14,9 @@ use Rattle.cf_tree.specs.Tree.{Binder}
 use Rattle.cf_term.specs.declared.operations.Op.TheVariants as op
 use Rattle.cf_term.specs.Core.{Tm, var, node, Tms, nil, cons, Part, parts, first_part, rest_parts, branch_parts, Branch, Head, MetaTyH, ValTyH, CompTyH, TyH, PiH, LamH, AppH, LetH, SigH, PairH, FstH, SndH, UnitTyH, UnitH, UnitRecH, BoolTyH, TrueH, FalseH, BoolRecH, NatTyH, ZeroH, SucH, NatRecH, ListTyH, NilH, ConsH, ListRecH, LiftH, QuoteH, VH, CH, IntTyH, DataH, ArrH, LitH, PrimH, LetVH, LetRecH, OLamH, OAppH, ConH, CaseH, FailH, SpliceH, HoleH, MarkH}
 use Rattle.cf_term.specs.Same.{plain, plain_all}
-use Rattle.cf_parse.specs.Meaning.{form, natlit_of, whole_of}
+use Rattle.cf_syntax.specs.Numbers.{natlit_of, whole_of, fits_word}
+use Rattle.cf_parse.specs.Meaning.{form}
 use Rattle.cf_parse.specs.Meaning as meant
-use Rattle.cf_parse.specs.Reads.{fits_word}
 use Rattle.cf_elab.specs.Forms.{numeral}
 use Rattle.cf_elab.specs.Scope.{Globals}
 use Rattle.cf_core_text.specs.Names.{Names, global_name}

@@ -10,9 +10,10 @@ use Rattle.cf_grammar.specs.declared.phrases.Phrase.{Phrase}
 use Rattle.cf_grammar.specs.declared.phrases.Symbol.{Symbol}
 use Rattle.cf_grammar.specs.declared.phrases.Symbol.TheVariants.{Phrase as a}
 use Rattle.cf_parse.specs.Derivation.{Cst, leaf, branch, Csts, nil, cons, Parses, ParsesAll}
-use Rattle.cf_parse.specs.Meaning.{Sem, meaning, place, value, values}
+use Rattle.cf_syntax.specs.Places.{place}
+use Rattle.cf_parse.specs.Meaning.{Sem, meaning, value, values}
 use Rattle.cf_parse.specs.Meaning as meant
-use Rattle.cf_parse.specs.Tokens.{Token, begins_plain}
+use Rattle.cf_syntax.specs.Tokens.{Token, begins_plain}
 use Rattle.cf_core_text.specs.Names.{Names, ctor_name, global_name, type_name}
 use Rattle.cf_core_text.specs.Text.{spelling}
 use Rattle.cf_core_text.specs.declared.pieces.Piece.{Piece}

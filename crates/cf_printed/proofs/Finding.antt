@@ -5,7 +5,7 @@ use Rattle.std.specs.Str.{bytes_eq}
 use Rattle.cf_elab.specs.Scope.{Globals, ctor_of, is_named, type_of, with_own, with_type}
 use Rattle.cf_elab.specs.declared.numbers.CtorNumber.{CtorNumber}
 use Rattle.cf_rules.specs.Programs.{Constructor, Data, Declaration, DataC, MetaC, ObjectC}
-use Rattle.cf_parse.specs.Tokens.{begins_plain}
+use Rattle.cf_syntax.specs.Tokens.{begins_plain}
 use Rattle.cf_core_text.specs.Names.{Names, ctor_name, data_types, global_name, type_name}
 use Rattle.cf_printed.specs.Scoped.{CtorsScoped, DeclScoped, IsCtor, IsName, below, below_ctors, next_ctor}
 use Rattle.cf_printed.proofs.Forms.{Finds}

@@ -19,6 +19,7 @@ use Rattle.cf_tree.specs.declared.heads.Head.TheVariants as head
 use Rattle.cf_tree.specs.Tree as trees
 use Rattle.cf_tree.specs.Tree.{Binder, Named, Plain, Tree, Trees, tree}
 use Rattle.cf_term.specs.Core.{Tm, cons, nil, node, var, ArrH, LiftH, QuoteH, SigH, SpliceH}
+use Rattle.cf_syntax.specs.Places.{place}
 use Rattle.cf_parse.specs.Meaning.{Action, Sem, actions, arms_in, binders_in, form, parts, run, terms_in}
 use Rattle.cf_parse.specs.Meaning as meant
 use Rattle.cf_elab.specs.Forms.{formed}
@@ -30,7 +31,7 @@ use Rattle.cf_core_text.specs.Pieces.{variable}
 use Rattle.cf_core_text.specs.Text.{mark_text, spelling}
 use Rattle.cf_core_text.specs.declared.pieces.Piece.{Piece}
 use Rattle.cf_core_text.specs.declared.pieces.Piece.TheVariants as piece
-use Rattle.cf_parse.specs.Tokens.{begins_plain}
+use Rattle.cf_syntax.specs.Tokens.{begins_plain}
 use Rattle.cf_printed.specs.Scoped.{IsCtor}
 use Rattle.cf_printed.proofs.Deriving.{Gives, GivesAll, class_of, g_both, g_last, g_map, g_none, g_phrase, g_same, g_token}
 use Rattle.cf_printed.proofs.Placed.{AsAtom, AsTerm, Tree_of, atom_chain}
@@ -58,7 +59,7 @@ pub record Finds (N : Names) (g : Globals) : Type 0 where
 
 -- the meaning of a mark that begins at byte n
 abbrev mark_at : ℕ → Mark → Sem
-mark_at n z = meant.token (meant.place false n) (class.Mark z) (mark_text z)
+mark_at n z = meant.token (place false n) (class.Mark z) (mark_text z)
 
 module _ (N : Names) (g : Globals) where
   abbrev G : ℕ
@@ -105,7 +106,7 @@ module _ (N : Names) (g : Globals) where
         is_bound g (locals m) x.0 h (Some (local_name m)) x.1.1.0.0 x.1.1.1.1.0 t u v x.1.1.0.1 x.1.1.1.1.1 k,
       ))
       (λ x.
-      let k : Sem = meant.token (meant.place false x.1.0) (class_of N q) (spelling N q) in
+      let k : Sem = meant.token (place false x.1.0) (class_of N q) (spelling N q) in
       ap (λ o. run o x.0 (k ∷ meant.domain false (Some (local_name m)) (Some x.1.1.0.0) ∷ mark_at x.1.1.1.0 mk ∷ meant.term x.1.1.1.1.0 ∷ [])) (c i) ∙ act x.0 k (mark_at x.1.1.1.0 mk) (Some (local_name m)) x.1.1.0.0 x.1.1.1.1.0))
 
   -- what a definition is, and the meanings of its symbols
@@ -140,7 +141,7 @@ module _ (N : Names) (g : Globals) where
         tree x.0 (Plain h) (trees.part [] x.1.1.1.1.0.0 (trees.part [] x.1.1.1.1.1.1.0.0 (trees.part (Some (local_name m) ∷ []) x.1.1.1.1.1.1.1.1.0 trees.none))),
         is_defined g (locals m) [] x.0 h (Some (local_name m)) x.1.1.1.1.0.0 x.1.1.1.1.1.1.0.0 x.1.1.1.1.1.1.1.1.0 s t u v x.1.1.1.1.0.1 x.1.1.1.1.1.1.0.1 x.1.1.1.1.1.1.1.1.1 f,
       ))
-      (λ x. ap (λ o. run o x.0 (meant.token (meant.place false x.1.0) (class.Word y) (keyword_text y) ∷ defined_as m (locals m) s t u x.1.1)) (c e))
+      (λ x. ap (λ o. run o x.0 (meant.token (place false x.1.0) (class.Word y) (keyword_text y) ∷ defined_as m (locals m) s t u x.1.1)) (c e))
 
   pub letrec_form : (v : Tm) (m d : ℕ) → d ≡ G + m → (ps qs rs : List Piece) (s t u : Tm) → ((i : ℕ) → formed head.LetRec [] (cons s (cons t (cons u nil))) i ≡ As v i) →
       AsTerm N g ps (locals m) s → AsTerm N g qs (locals (suc m)) t → AsTerm N g rs (locals (suc m)) u →

@@ -11,7 +11,7 @@ use Rattle.std.proofs.lemmas.Slice.Eq.{bytes_eq-Decides}
 use Rattle.cf_tree.specs.Tree.{Binder}
 use Rattle.cf_elab.specs.Scope.{Globals, is_named, is_taken, settled, start, with_own, with_type, with_variable}
 use Rattle.cf_elab.specs.declared.numbers.CtorNumber.{CtorNumber}
-use Rattle.cf_parse.specs.Tokens.{begins_plain}
+use Rattle.cf_syntax.specs.Tokens.{begins_plain}
 use Rattle.cf_printed.proofs.Tables.{get_either, get_first}
 
 -- the first that passes a test

@@ -8,6 +8,7 @@ use Rattle.cf_grammar.specs.declared.phrases.Symbol.TheVariants.{Phrase as a}
 use Rattle.cf_tree.specs.Tree as trees
 use Rattle.cf_tree.specs.Tree.{Binder, Named, Plain, Tree, Trees, tree}
 use Rattle.cf_term.specs.Core.{Tms, cons, nil, node, ConH, DataH}
+use Rattle.cf_syntax.specs.Places.{place}
 use Rattle.cf_parse.specs.Meaning.{Sem, arms_in, binders_in, parts, terms_in}
 use Rattle.cf_parse.specs.Meaning as meant
 use Rattle.cf_elab.specs.Scope.{Globals, type_of}
@@ -132,7 +133,7 @@ module _ (N : Names) (g : Globals) (ls : List Binder) where
       (g_phrase N (phrase.Brackets true e) 1 refl
       (g_token N (piece.Mark sign.OpenBracket) _ Takes.exact
       (g_both N (listed fs) (piece.Mark sign.CloseBracket ∷ []) (terms_form fs us h e) (g_token N (piece.Mark sign.CloseBracket) [] Takes.exact (g_none N))))))))
-      (λ x. let d : Named = record { at = meant.place false x.1.0; name = type_name N n } in
+      (λ x. let d : Named = record { at = place false x.1.0; name = type_name N n } in
       (tree x.0 (trees.DataAt d) (parts (terms_in x.1.1.1.1.0.0)), is_data g ls x.0 d (parts (terms_in x.1.1.1.1.0.0)) n us q (each_are (terms_in x.1.1.1.1.0.0) us x.1.1.1.1.0.1)))
       (λ x. refl)
 
@@ -155,7 +156,7 @@ module _ (N : Names) (g : Globals) (ls : List Binder) where
       (g_token N piece.Fields _ Takes.exact
       (g_both N (listed (drop k fs)) (piece.Mark sign.CloseParen ∷ []) (terms_form (drop k fs) (back k us) (back_terms k fs us h) e) (g_token N (piece.Mark sign.CloseParen) [] Takes.exact (g_none N))))))))
       (λ x.
-      let d : Named = record { at = meant.place false x.1.1.0; name = ctor_name N n c } in
+      let d : Named = record { at = place false x.1.1.0; name = ctor_name N n c } in
       let ps : List Tree = terms_in x.1.1.1.0.1.1.0.0 in
       let ts : List Tree = terms_in x.1.1.1.1.1.0.0 in
       let both : EachIs (ps ++ ts) us = subst (EachIs (ps ++ ts)) (front_back k us) (each_joined ps ts (front k us) (back k us) x.1.1.1.0.1.1.0.1 x.1.1.1.1.1.0.1) in (

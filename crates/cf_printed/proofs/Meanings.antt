@@ -10,9 +10,9 @@ use Rattle.cf_tree.specs.declared.heads.Head.{Head}
 use Rattle.cf_tree.specs.declared.heads.Head.TheVariants as head
 use Rattle.cf_tree.specs.Tree as trees
 use Rattle.cf_tree.specs.Tree.{Plain, Tree, tree, Trees, part, CtorTree, DeclTree, DataD, MetaD, ObjectD}
-use Rattle.cf_parse.specs.Meaning.{Action, Sem, arms_in, binders_in, ctors_in, decls_in, form, names_in, natlit_of, of_word, operands, arguments, parts, terms_in, whole_of, atoms_in}
+use Rattle.cf_syntax.specs.Numbers.{natlit_of, whole_of, fits_word}
+use Rattle.cf_parse.specs.Meaning.{Action, Sem, arms_in, binders_in, ctors_in, decls_in, form, names_in, of_word, operands, arguments, parts, terms_in, atoms_in}
 use Rattle.cf_parse.specs.Meaning as meant
-use Rattle.cf_parse.specs.Reads.{fits_word}
 use Rattle.cf_parse.specs.Words.{form_of}
 use Rattle.cf_printed.specs.Scoped.{IsName}
 use Rattle.cf_printed.proofs.Written.{AllWritten, AreCtorTrees, AreDecls, AreTerms, ArmsWritten, IsDecl, IsShaped, Written, cases, construction, data_type, no_arm, no_part, one_arm, one_part, plain, shape, size, sizes, variable, zeros, number_of}

@@ -9,7 +9,7 @@ use Rattle.cf_lex.specs.Tokens.{Lexes}
 use Rattle.cf_tree.specs.Tree.{is_explicit}
 use Rattle.cf_parse.specs.Laws.{ReadsOne}
 use Rattle.cf_parse.specs.Reads.{ReadsUnlimited}
-use Rattle.cf_parse.specs.Tokens.{tokens_of}
+use Rattle.cf_syntax.specs.Tokens.{tokens_of}
 use Rattle.cf_elab.specs.Core.{IsCoreOf}
 use Rattle.cf_core_text.specs.Lines.{core_text}
 use Rattle.cf_printed.specs.Laws.{ReadsOnly}

@@ -11,7 +11,7 @@ use Rattle.cf_tree.specs.Tree.{Binder, Tree}
 use Rattle.cf_term.specs.Core.{Tm, AppH, OAppH, cons, nil, node}
 use Rattle.cf_parse.specs.Meaning.{Sem, arguments, form, operands}
 use Rattle.cf_parse.specs.Meaning as meant
-use Rattle.cf_parse.specs.Tokens.{Token}
+use Rattle.cf_syntax.specs.Tokens.{Token}
 use Rattle.cf_elab.specs.Scope.{Globals}
 use Rattle.cf_core_text.specs.Names.{Names}
 use Rattle.cf_core_text.specs.Pieces.{enclosed, stands}

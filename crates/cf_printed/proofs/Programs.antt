@@ -11,9 +11,10 @@ use Rattle.cf_tree.specs.Tree.{Binder, CtorTree, DeclTree, DataD, MetaD, ObjectD
 use Rattle.cf_term.specs.Core.{Tm}
 use Rattle.cf_term.specs.Same.{plain}
 use Rattle.cf_rules.specs.Programs.{Constructor, Data, Declaration, DataC, MetaC, ObjectC}
+use Rattle.cf_syntax.specs.Places.{place}
 use Rattle.cf_parse.specs.Meaning.{Sem, ctors_in, decls_in, names_in, terms_in}
 use Rattle.cf_parse.specs.Meaning as meant
-use Rattle.cf_parse.specs.Tokens.{begins_plain}
+use Rattle.cf_syntax.specs.Tokens.{begins_plain}
 use Rattle.cf_elab.specs.Core.{declare, declare_all, declare_ctors, new_name, resolve}
 use Rattle.cf_elab.specs.Resolving.{As, Resolving, Twice, and_then, each, pure}
 use Rattle.cf_elab.specs.Scope.{Globals, is_taken, settled, under, with_own, with_type, with_variable}
@@ -98,7 +99,7 @@ module _ (N : Names) where
   takes : (x : Name) → begins_plain x ≡ true → Takes GNAME (class.Name (begins_plain x))
   takes x e = subst (λ b. Takes GNAME (class.Name b)) (sym e) Takes.exact
 
-  param_form : (k j : ℕ) → Gives N (a (phrase.Param k)) (piece.Mark sign.OpenParen ∷ piece.Local j ∷ piece.Mark sign.Colon ∷ piece.Word keyword.ValTy ∷ piece.Mark sign.CloseParen ∷ []) {A = ℕ} (λ n. meant.token (meant.place false n) (class.Name false) (local_name j))
+  param_form : (k j : ℕ) → Gives N (a (phrase.Param k)) (piece.Mark sign.OpenParen ∷ piece.Local j ∷ piece.Mark sign.Colon ∷ piece.Word keyword.ValTy ∷ piece.Mark sign.CloseParen ∷ []) {A = ℕ} (λ n. meant.token (place false n) (class.Name false) (local_name j))
   param_form k j = g_map N
       (g_phrase N (phrase.Param k) 0 refl
       (g_token N (piece.Mark sign.OpenParen) _ Takes.exact
@@ -111,7 +112,7 @@ module _ (N : Names) where
   params_form (suc n) j k = g_map N
       (g_phrase N (phrase.Params k) 1 refl
       (g_both N (piece.Mark sign.OpenParen ∷ piece.Local j ∷ piece.Mark sign.Colon ∷ piece.Word keyword.ValTy ∷ piece.Mark sign.CloseParen ∷ []) (parameters (suc j) n) (param_form k j) (g_last N (parameters (suc j) n) (params_form n (suc j) (suc k)))))
-      (λ x. (meant.also (meant.token (meant.place false x.1.0) (class.Name false) (local_name j)) x.1.1.0, ap (λ l. local_name j ∷ l) x.1.1.1))
+      (λ x. (meant.also (meant.token (place false x.1.0) (class.Name false) (local_name j)) x.1.1.0, ap (λ l. local_name j ∷ l) x.1.1.1))
       (λ x. refl)
 
   -- terms that stand below these globals
@@ -159,7 +160,7 @@ module _ (N : Names) where
       (g_token N (piece.Ctor t j) _ (takes (ctor_name N t j) (ap begins_plain e ∙ b))
       (g_token N (piece.Mark sign.OpenParen) _ Takes.exact
       (g_both N ps (piece.Mark sign.CloseParen ∷ []) (fields_form g f u p d (under_sum (length g.variables) p) c.fields s 0) (g_token N (piece.Mark sign.CloseParen) [] Takes.exact (g_none N))))))
-      (λ x. (record { ctor = record { at = meant.place false x.1.0; name = ctor_name N t j }; fields = terms_in x.1.1.1.0.0 }, e, x.1.1.1.0.1))
+      (λ x. (record { ctor = record { at = place false x.1.0; name = ctor_name N t j }; fields = terms_in x.1.1.1.0.0 }, e, x.1.1.1.0.1))
       (λ x. refl)
 
   abbrev Ctors_of : (t p : ℕ) → Globals → List Constructor → Type 0
@@ -232,7 +233,7 @@ module _ (N : Names) where
       (g_both N qs (piece.Mark sign.Semicolon ∷ []) (all_ctors_form t d.params d at h (facts_inside N g d ds s.0.0 q) (distinct_type g d.name s.0.1 u) d.ctors refl s.2 0)
       (g_token N (piece.Mark sign.Semicolon) [] Takes.exact (g_none N))))))))
       (λ x.
-      let n : Named = record { at = meant.place false x.1.1.0; name = type_name N t } in
+      let n : Named = record { at = place false x.1.1.0; name = type_name N t } in
       let us : List Name = names_in x.1.1.1.0.0 in
       let cs : List CtorTree = ctors_in x.1.1.1.1.1.0.0 in (
         DataD n us cs,
@@ -256,7 +257,7 @@ module _ (N : Names) where
       (g_token N (piece.Mark sign.Becomes) (qs ++ piece.Mark sign.Semicolon ∷ []) Takes.exact
       (g_both N qs (piece.Mark sign.Semicolon ∷ []) (terms_of g f u 0 v e c s.2 1) (g_token N (piece.Mark sign.Semicolon) [] Takes.exact (g_none N)))))))))
       (λ y.
-      let n : Named = record { at = meant.place false y.1.1.0; name = global_name N v } in
+      let n : Named = record { at = place false y.1.1.0; name = global_name N v } in
       (MetaD n y.1.1.1.1.0.0 y.1.1.1.1.1.1.0.0, meta_is g n y.1.1.1.1.0.0 y.1.1.1.1.1.1.0.0 x (plain b) (plain c) name s.0.1 y.1.1.1.1.0.1 y.1.1.1.1.1.1.0.1))
       (λ y. refl)
   decl_form g (ObjectC x b c) ds q u s k =
@@ -274,7 +275,7 @@ module _ (N : Names) where
       (g_token N (piece.Mark sign.Becomes) (qs ++ piece.Mark sign.Semicolon ∷ []) Takes.exact
       (g_both N qs (piece.Mark sign.Semicolon ∷ []) (terms_of g f u 0 v e c s.2 1) (g_token N (piece.Mark sign.Semicolon) [] Takes.exact (g_none N))))))))
       (λ y.
-      let n : Named = record { at = meant.place false y.1.0; name = global_name N v } in
+      let n : Named = record { at = place false y.1.0; name = global_name N v } in
       (ObjectD n y.1.1.1.0.0 y.1.1.1.1.1.0.0, object_is g n y.1.1.1.0.0 y.1.1.1.1.1.0.0 x (plain b) (plain c) name s.0.1 y.1.1.1.0.1 y.1.1.1.1.1.0.1))
       (λ y. refl)
 

@@ -11,7 +11,7 @@ use Rattle.cf_rules.specs.Programs.{Declaration}
 use Rattle.cf_parse.specs.Meaning.{decls_in, program_in}
 use Rattle.cf_parse.specs.Meaning as meant
 use Rattle.cf_parse.specs.Reads.{ReadsUnlimited}
-use Rattle.cf_parse.specs.Tokens.{end_of, tokens_of}
+use Rattle.cf_syntax.specs.Tokens.{end_of, tokens_of}
 use Rattle.cf_elab.specs.Core.{declare_all}
 use Rattle.cf_elab.specs.Resolving.{As}
 use Rattle.cf_elab.specs.Scope.{start}

@@ -6,7 +6,7 @@ use Rattle.cf_lex.specs.Lexed.{TokenList}
 use Rattle.cf_lex.specs.Names as lexed
 use Rattle.cf_lex.specs.Tokens.{Item}
 use Rattle.cf_rules.specs.Programs.{Declaration}
-use Rattle.cf_parse.specs.Tokens.{Token, class_of, end_of, token_of, tokens_of}
+use Rattle.cf_syntax.specs.Tokens.{Token, class_of, end_of, token_of, tokens_of}
 use Rattle.cf_core_text.specs.Names.{Names, names_of}
 use Rattle.cf_core_text.specs.Text.{behind, gap, joined, spelling}
 use Rattle.cf_core_text.specs.Lines.{head_line, line_text, lines}

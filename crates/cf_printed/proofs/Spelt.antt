@@ -25,7 +25,7 @@ use Rattle.cf_lex.specs.declared.marks.Mark.TheVariants as sign
 use Rattle.cf_lex.specs.declared.piece.Lexeme.TheVariants as lexeme
 use Rattle.cf_lex.specs.declared.piece.Piece.{Piece}
 use Rattle.cf_lex.specs.declared.piece.Piece.TheVariants as read
-use Rattle.cf_parse.specs.Reads.{fits_word}
+use Rattle.cf_syntax.specs.Numbers.{fits_word}
 use Rattle.cf_core_text.specs.Names.{Names}
 use Rattle.cf_core_text.specs.Text.{mark_text}
 use Rattle.cf_core_text.specs.declared.pieces.Piece.TheVariants as piece

@@ -10,7 +10,7 @@ use Rattle.cf_lex.specs.declared.piece.Lexeme.{Lexeme}
 use Rattle.cf_lex.specs.declared.piece.Lexeme.TheVariants as lexeme
 use Rattle.cf_lex.specs.declared.piece.Piece.{Piece}
 use Rattle.cf_lex.specs.declared.piece.Piece.TheVariants as read
-use Rattle.cf_parse.specs.Tokens.{Token, class_of, end_of, token_of, tokens_of}
+use Rattle.cf_syntax.specs.Tokens.{Token, class_of, end_of, token_of, tokens_of}
 use Rattle.cf_printed.proofs.Inside.{length_map}
 use Rattle.cf_printed.proofs.Spelling.{slice_mid}
 use Rattle.cf_printed.proofs.Truth.{left, right, both}

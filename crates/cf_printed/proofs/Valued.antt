@@ -6,8 +6,7 @@ use Rattle.std.specs.Fmt.{decimal as printed, signed_decimal}
 use Rattle.std.specs.Str.Parse.{AllDigits, IsNumeral, digits_value_after}
 use Rattle.std.proofs.lemmas.Fmt.{decimal_is_IsNumeral}
 use Rattle.std.proofs.lemmas.Str.Parse.{digit_from_value}
-use Rattle.cf_parse.specs.Meaning.{decimal, natlit_of, signed, whole_of}
-use Rattle.cf_parse.specs.Reads.{fits_word}
+use Rattle.cf_syntax.specs.Numbers.{decimal, natlit_of, signed, whole_of, fits_word}
 
 digit_is : (c : ℕ) → 48 ≤ c → c ≤ 57 → digit_value c ≡ c - 48
 digit_is c l h = rw (le-ltb c 48 l, lt-ltb c 58 (omega arith)) refl

@@ -12,10 +12,12 @@ use Rattle.cf_grammar.specs.declared.classes.Class.{Class}
 use Rattle.cf_grammar.specs.declared.classes.Class.TheVariants as class
 use Rattle.cf_grammar.specs.declared.phrases.Symbol.{Symbol}
 use Rattle.cf_parse.specs.Derivation.{Cst, leaf, branch, Csts, nil, cons, Parses, ParsesAll, token, phrase, none as no_symbol, both}
-use Rattle.cf_parse.specs.Meaning.{Sem, actions, decls_in, natlit_of, place, program_in, program_of, value, values}
+use Rattle.cf_syntax.specs.Numbers.{natlit_of, in_range}
+use Rattle.cf_syntax.specs.Places.{place}
+use Rattle.cf_parse.specs.Meaning.{Sem, actions, decls_in, program_in, program_of, value, values}
 use Rattle.cf_parse.specs.Meaning as meant
-use Rattle.cf_parse.specs.Reads.{in_range, within, within_all, within_limit}
-use Rattle.cf_parse.specs.Tokens.{Token, begins_plain}
+use Rattle.cf_parse.specs.Reads.{within, within_all, within_limit}
+use Rattle.cf_syntax.specs.Tokens.{Token, begins_plain}
 use Rattle.cf_printed.proofs.Acting.{acting, all_explicit, explicit_rules, explicit_symbol, kind_at, kind_of, kinds_of, sides}
 use Rattle.cf_printed.proofs.Meanings.{Made, AllMade, end, next, a_global, a_name, a_natlit, a_token, a_whole, a_word}
 use Rattle.cf_printed.proofs.Truth.{left, right}

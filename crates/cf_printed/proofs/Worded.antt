@@ -10,6 +10,7 @@ use Rattle.cf_grammar.specs.declared.phrases.Symbol.TheVariants.{Phrase as a}
 use Rattle.cf_tree.specs.declared.heads.Head.{Head}
 use Rattle.cf_tree.specs.Tree.{Binder}
 use Rattle.cf_term.specs.Core.{Tm, cons, nil}
+use Rattle.cf_syntax.specs.Places.{place}
 use Rattle.cf_parse.specs.Meaning.{Sem, actions, form, of_word, run, worded}
 use Rattle.cf_parse.specs.Meaning as meant
 use Rattle.cf_parse.specs.Words.{form_of}
@@ -25,7 +26,7 @@ use Rattle.cf_printed.proofs.Resolving.{is_four, is_one, is_three, is_two, is_ze
 
 -- the meaning of a word that begins at byte n
 abbrev word_at : ℕ → Keyword → Sem
-word_at n y = meant.token (meant.place false n) (class.Word y) (keyword_text y)
+word_at n y = meant.token (place false n) (class.Word y) (keyword_text y)
 
 module _ (N : Names) (g : Globals) (ls : List Binder) where
   -- a word without atoms, by the number of its right side

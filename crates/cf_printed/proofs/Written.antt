@@ -4,7 +4,7 @@ use Rattle.cf_base.specs.declared.at.At.{At}
 use Rattle.cf_tree.specs.declared.heads.Head.{Head}
 use Rattle.cf_tree.specs.declared.heads.Head.TheVariants as head
 use Rattle.cf_tree.specs.Tree.{Name, Named, Binder, Form, Plain, Variable, DataAt, ConAt, Tree, tree, Trees, none, part, branch, CtorTree, DeclTree, DataD, MetaD, ObjectD}
-use Rattle.cf_parse.specs.Reads.{fits_word}
+use Rattle.cf_syntax.specs.Numbers.{fits_word}
 use Rattle.cf_printed.specs.Scoped.{IsName}
 
 -- how many names each part of a form is under

@@ -4,7 +4,7 @@ use Rattle.cf_lex.specs.Lexed.{IsLexed, Lexed, TokenList}
 use Rattle.cf_tree.specs.Tree.{Program, is_explicit}
 use Rattle.cf_rules.specs.Programs.{Declaration}
 use Rattle.cf_parse.specs.Reads.{Reads, ReadsUnlimited, within}
-use Rattle.cf_parse.specs.Tokens.{tokens_of}
+use Rattle.cf_syntax.specs.Tokens.{tokens_of}
 use Rattle.cf_elab.specs.Core.{IsCoreOf}
 use Rattle.cf_elab.specs.Scope.{start}
 use Rattle.cf_core_text.specs.Lines.{core_text}

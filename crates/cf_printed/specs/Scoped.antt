@@ -4,8 +4,8 @@ use Rattle.cf_lex.specs.Lexed.{AreChars}
 use Rattle.cf_lex.specs.Tokens.{spelled}
 use Rattle.cf_lex.specs.declared.piece.Lexeme.TheVariants as lexeme
 use Rattle.cf_lex.specs.declared.piece.Piece.TheVariants as read
-use Rattle.cf_parse.specs.Reads.{fits_word}
-use Rattle.cf_parse.specs.Tokens.{begins_plain}
+use Rattle.cf_syntax.specs.Numbers.{fits_word}
+use Rattle.cf_syntax.specs.Tokens.{begins_plain}
 use Rattle.cf_term.specs.Core.{Tm, var, node, Tms, nil, cons, Part, parts, first_part, rest_parts, Branch, Head, PiH, LamH, AppH, LetH, SigH, PairH, FstH, SndH, UnitRecH, BoolRecH, SucH, NatRecH, ListTyH, NilH, ConsH, ListRecH, LiftH, QuoteH, VH, CH, DataH, ArrH, LitH, PrimH, LetVH, LetRecH, OLamH, OAppH, ConH, CaseH, FailH, SpliceH, HoleH, MarkH}
 use Rattle.cf_rules.specs.Programs.{Constructor, Declaration, DataC, MetaC, ObjectC}
 use Rattle.cf_elab.specs.Scope.{Globals, is_taken, with_variable, with_type, with_own, settled}

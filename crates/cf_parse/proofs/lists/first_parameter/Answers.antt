@@ -1,0 +1,10 @@
+use Rattle.std.proofs.Common.{refl}
+use Rattle.cf_parse.proofs.Reducing.{of_two}
+use Rattle.cf_parse.specs.Kinds as kind
+use Rattle.cf_parse.specs.Meaning as meant
+use Rattle.cf_parse.proofs.lists.first_parameter.Goals as goal
+
+pub returns : goal.returns
+returns c =
+    let s = c.args.source.now in
+    of_two meant.more c.args.place c.requires (c.take_token-first.ensures s kind.Name tt) (c.pop.ensures s _) (λ h. refl) (c.in_ok-others.ensures s) (c.in_ok-push.ensures s) refl

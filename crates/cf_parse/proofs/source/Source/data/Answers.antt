@@ -1,8 +1,0 @@
-use Rattle.cf_parse.proofs.Declaring.{data_put}
-use Rattle.cf_parse.specs.Kinds as kind
-use Rattle.cf_parse.proofs.source.Source.data.Goals as goal
-
-pub returns : goal.returns
-returns c =
-    let s = c.args.self.now in
-    data_put c.args.place c.requires (c.pop.ensures s _) (c.pop-2.ensures s _) (c.pop-3.ensures s _) (c.pop-4.ensures s _) (c.pop-5.ensures s _) (c.pop-6.ensures s _) (c.token-name.ensures s kind.Name tt) (c.in_ok-params.ensures s) (c.in_ok-ctors.ensures s) c.in_ok-decl.ensures (c.in_ok-push.ensures s)

@@ -1,7 +1,0 @@
-use Rattle.cf_parse.proofs.Declaring.{explicit_put}
-use Rattle.cf_parse.proofs.source.Source.explicit_program.Goals as goal
-
-pub returns : goal.returns
-returns c =
-    let s = c.args.self.now in
-    explicit_put c.args.place c.in_ok-decls.decls.items c.reverse.new.self.items c.requires (c.pop.ensures s _) (c.pop-2.ensures s _) (c.pop-3.ensures s _) (c.in_ok-decls.ensures s) c.reverse.ensures.items (c.in_ok-push.ensures s)

@@ -1,8 +1,0 @@
-use Rattle.cf_parse.proofs.Declaring.{parameter_put}
-use Rattle.cf_parse.specs.Kinds as kind
-use Rattle.cf_parse.proofs.source.Source.parameter.Goals as goal
-
-pub returns : goal.returns
-returns c =
-    let s = c.args.self.now in
-    parameter_put c.args.place c.requires (c.pop.ensures s _) (c.pop-2.ensures s _) (c.pop-3.ensures s _) (c.pop-4.ensures s _) (c.pop-5.ensures s _) (c.token-name.ensures s kind.Name tt) (c.in_ok-push.ensures s)

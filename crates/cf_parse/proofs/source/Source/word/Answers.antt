@@ -1,5 +1,0 @@
-use Rattle.std.proofs.Common.{◌∙◌, sym}
-use Rattle.cf_parse.proofs.source.Source.word.Goals as goal
-
-pub returns-in_default : goal.returns-in_default
-returns-in_default c = λ y e. absurd (c.in_default.not-Word y (sym c.class.ensures.front ∙ e))

@@ -1,0 +1,12 @@
+use Rattle.std.proofs.Common.{refl}
+use Rattle.cf_tree.specs.declared.heads.Head.TheVariants as head
+use Rattle.cf_parse.proofs.Reducing.{of_eight}
+use Rattle.cf_parse.specs.Kinds as kind
+use Rattle.cf_parse.specs.Meaning as meant
+use Rattle.cf_parse.specs.Values.{sem}
+use Rattle.cf_parse.proofs.terms.value_let.Goals as goal
+
+pub returns : goal.returns
+returns c =
+    let s = c.args.source.now in
+    of_eight (meant.definition head.LetV) c.args.place c.requires ((c.discard.ensures s).1 kind.Token) (c.pop.ensures s kind.Binder) ((c.discard-2.ensures s).1 kind.Token) (c.pop-2.ensures s kind.Term) ((c.discard-3.ensures s).1 kind.Token) (c.pop-3.ensures s kind.Term) ((c.discard-4.ensures s).1 kind.Token) (c.pop-4.ensures s kind.Term) (λ h. refl) (c.binder-binder.ensures s) (λ h. refl) (c.in_ok-ty.ensures s) (λ h. refl) (c.in_ok-value.ensures s) (λ h. refl) (c.in_ok-body.ensures s) (c.in_ok-push.ensures s) (c.in_ok-tree.ensures (c.discard.ensures s).0 (c.discard-2.ensures s).0 (c.discard-3.ensures s).0 (c.discard-4.ensures s).0)

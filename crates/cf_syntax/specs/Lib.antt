@@ -1,0 +1,6 @@
+pub mod Tokens
+pub mod Numbers
+pub mod Places
+pub mod Source
+pub mod Checks
+pub mod Refusals
