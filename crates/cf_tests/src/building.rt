@@ -1,0 +1,54 @@
+// Programs and terms from their text.
+use cf_core_text::core_text;
+use cf_elab::direct;
+use cf_lex::tokens;
+use cf_parse::parse;
+use cf_rules::{CoreDecl, CoreProgram};
+use cf_term::Term;
+use cf_tree::Program;
+use std::alloc::Global;
+use std::test::Fail;
+
+/// The program with this text.
+pub(crate) fn program_of(alloc: Global, text: &str) -> Result<Program, Fail> {
+    if text.len() > 1048576 {
+        return Err(Fail::from("too long"));
+    }
+    let found = tokens(alloc, text.as_bytes())?;
+    Ok(parse(alloc, &found, false)?)
+}
+
+/// The core of the program with this text.
+pub(crate) fn core_of(alloc: Global, text: &str) -> Result<CoreProgram, Fail> {
+    let program = program_of(alloc, text)?;
+    Ok(direct(alloc, &program)?)
+}
+
+/// The core of the program with this text, as it is printed.
+pub(crate) fn printed(alloc: Global, text: &str) -> Result<String, Fail> {
+    let core = core_of(alloc, text)?;
+    Ok(String::from_utf8(core_text(alloc, &core)?)?)
+}
+
+/// The body of the last declaration of the program with this text.
+pub(crate) fn last_body(alloc: Global, text: &str) -> Result<Term, Fail> {
+    let mut core = core_of(alloc, text)?;
+    match core.decls.pop() {
+        Some(CoreDecl::MetaC { body, .. }) => Ok(body),
+        Some(CoreDecl::ObjectC { body, .. }) => Ok(body),
+        _ => Err(Fail::from("no body")),
+    }
+}
+
+/// The term with this text, where these letters are its variables, the last of them innermost.
+pub(crate) fn term_of(alloc: Global, variables: &str, text: &str) -> Result<Term, Fail> {
+    let mut program = String::from_str(
+        alloc,
+        "data D (p : ValTy) (q : ValTy) := none() | one(p) | two(p, q); ",
+    )?;
+    for name in variables.chars() {
+        program.push_str(format!(in alloc; "{name} : Int := 0; ")?.as_str())?;
+    }
+    program.push_str(format!(in alloc; "main : Int := {text};")?.as_str())?;
+    last_body(alloc, program.as_str())
+}

@@ -1,0 +1,230 @@
+// The calls on each form, and on the terms whose variables are easily mistaken.
+use crate::building::term_of;
+use cf_term::{Definition, Term, TermNode, copy, nesting, same, shift, size, subst};
+use std::alloc::Global;
+use std::rc::Rc;
+use std::test::Fail;
+
+// The variables of a term: `a` has number 3, `b` 4, `c` 5, `d` 6; `z` is below them.
+const VARIABLES: &str = "fgdcbazyw";
+
+// The same where ten more stand between `a` and `z`: a shift by 10 from 3 on.
+const SHIFTED: &str = "fgdcbaijklmnopqrzyw";
+
+// The same where `a` is the name of variable 7, and the variables above it are lowered: variable 7 put in for variable 3.
+const PUT: &str = "agdcbzyw";
+
+// A term of each form with its variables, of some also with those that it binds; how many forms it has, and on how many levels.
+const FORMS: [(&str, u64, u32); 50] = [
+    ("a", 1, 1),
+    ("z", 1, 1),
+    ("MetaTy", 1, 1),
+    ("ValTy", 1, 1),
+    ("CompTy", 1, 1),
+    ("Ty", 1, 1),
+    ("Pi (x : a) -> x b", 5, 3),
+    ("\\(x : a). b x", 5, 3),
+    ("a b", 3, 2),
+    ("mlet x : a := b; x c", 6, 3),
+    ("Sig (x : a), x b", 5, 3),
+    ("pair a b c", 4, 2),
+    ("fst a", 2, 2),
+    ("snd a", 2, 2),
+    ("Unit", 1, 1),
+    ("unit", 1, 1),
+    ("unitrec a b c", 4, 2),
+    ("Bool", 1, 1),
+    ("true", 1, 1),
+    ("false", 1, 1),
+    ("boolrec a b c d", 5, 2),
+    ("Nat", 1, 1),
+    ("zero", 1, 1),
+    ("suc a", 2, 2),
+    ("natrec a b c d", 5, 2),
+    ("List a", 2, 2),
+    ("nil a", 2, 2),
+    ("cons a b", 3, 2),
+    ("listrec a b c d", 5, 2),
+    ("^a", 2, 2),
+    ("<a>", 2, 2),
+    ("V a", 2, 2),
+    ("C a", 2, 2),
+    ("Int", 1, 1),
+    ("D[a, b]", 3, 2),
+    ("a => b", 3, 2),
+    ("-7", 1, 1),
+    ("sub a b", 3, 2),
+    ("let x : a := b; c x", 6, 3),
+    ("letrec x : a := x b; c x", 8, 3),
+    ("fn (x : a). b x", 5, 3),
+    ("a @ b", 3, 2),
+    ("con two[a, b](c, d)", 5, 2),
+    (
+        "case a : b of { none . c | one x . d x | two x u . x u a }",
+        12,
+        4,
+    ),
+    ("fail a", 2, 2),
+    ("~a", 2, 2),
+    ("_", 1, 1),
+    ("#2", 3, 3),
+    ("\\(x : a). fn (u : x). z a u", 9, 5),
+    ("Pi (x : a) -> Sig (u : x), mlet v : u := x; a v", 10, 5),
+];
+
+// Whether shifting the term by 10 from 3 on and putting in variable 7 for 3 give these terms.
+fn moves(alloc: Global, t: &Term, shifted: &Term, put: &Term) -> Result<bool, Fail> {
+    let raised = shift(alloc, t, 3, 10)?;
+    let by = term_of(alloc, PUT, "a")?;
+    let replaced = subst(alloc, t, 3, &by)?;
+    Ok(same(&raised, shifted) && same(&replaced, put))
+}
+
+#[test]
+fn forms_are_moved(rt: HostRuntime) -> Result<(), Fail> {
+    let alloc = rt.alloc();
+    for (text, _, _) in &FORMS {
+        let t = term_of(alloc, VARIABLES, text)?;
+        let shifted = term_of(alloc, SHIFTED, text)?;
+        let put = term_of(alloc, PUT, text)?;
+        assert!(rt; moves(alloc, &t, &shifted, &put)?, "{text}");
+    }
+    Ok(())
+}
+
+#[test]
+fn forms_are_measured_and_copied(rt: HostRuntime) -> Result<(), Fail> {
+    let alloc = rt.alloc();
+    let mut last = term_of(alloc, VARIABLES, "b")?;
+    for (text, forms, levels) in &FORMS {
+        let t = term_of(alloc, VARIABLES, text)?;
+        let copied = copy(alloc, &t)?;
+        assert!(rt; same(&copied, &t) && !same(&copied, &last), "{text}");
+        assert_eq!(rt; size(&copied), *forms, "{text}");
+        assert_eq!(rt; nesting(&copied), *levels, "{text}");
+        last = t;
+    }
+    Ok(())
+}
+
+// Terms, what is put in for `a`, and what they become: no variable is captured.
+const PUT_IN: [(&str, &str, &str); 8] = [
+    (
+        "let x : V Int := 100; add x ~a",
+        "<w>",
+        "let x : V Int := 100; add x ~<w>",
+    ),
+    ("\\(x : a). a x", "fst w", "\\(x : fst w). fst w x"),
+    (
+        "fn (x : Int). fn (u : Int). a @ u",
+        "\\(v : y). v y w",
+        "fn (x : Int). fn (u : Int). (\\(v : y). v y w) @ u",
+    ),
+    (
+        "letrec x : a := a x; x a",
+        "C (z => w)",
+        "letrec x : C (z => w) := C (z => w) x; x (C (z => w))",
+    ),
+    (
+        "case a : a of { none . a | two x u . x a }",
+        "w y",
+        "case w y : w y of { none . w y | two x u . x (w y) }",
+    ),
+    (
+        "mlet x : a := a; a",
+        "suc w",
+        "mlet x : suc w := suc w; suc w",
+    ),
+    (
+        "Sig (x : a), Pi (u : a) -> a",
+        "w",
+        "Sig (x : w), Pi (u : w) -> w",
+    ),
+    ("cons b (cons d z)", "w", "cons b (cons d z)"),
+];
+
+#[test]
+fn no_variable_is_captured(rt: HostRuntime) -> Result<(), Fail> {
+    let alloc = rt.alloc();
+    for (text, by, want) in &PUT_IN {
+        let t = term_of(alloc, VARIABLES, text)?;
+        let by = term_of(alloc, "fgdcbzyw", by)?;
+        let want = term_of(alloc, "fgdcbzyw", want)?;
+        assert!(rt; same(&subst(alloc, &t, 3, &by)?, &want), "{text}");
+    }
+    Ok(())
+}
+
+// Terms that differ.
+const DIFFERENT: [(&str, &str); 10] = [
+    ("5", "-5"),
+    ("#5", "5"),
+    ("a", "b"),
+    ("add a b", "sub a b"),
+    ("add a b", "add b a"),
+    ("con one[a, b](c)", "con two[a, b](c)"),
+    ("con one[a, b](c)", "con one[a](b, c)"),
+    ("D[a, b]", "D[a]"),
+    (
+        "case a : b of { none . c }",
+        "case a : b of { none . c | none . c }",
+    ),
+    (
+        "case a : b of { one x . c }",
+        "case a : b of { one x u . c }",
+    ),
+];
+
+#[test]
+fn others_differ(rt: HostRuntime) -> Result<(), Fail> {
+    for (text, other) in &DIFFERENT {
+        let t = term_of(rt.alloc(), VARIABLES, text)?;
+        let u = term_of(rt.alloc(), VARIABLES, other)?;
+        assert!(rt; !same(&t, &u), "{text}");
+    }
+    Ok(())
+}
+
+// A group of two definitions in the scope of these variables; no text has one.
+fn group(alloc: Global, variables: &str) -> Result<Term, Fail> {
+    let inner = format!(in alloc; "{variables}uv")?;
+    let mut definitions = Vec::new(alloc);
+    for (ty, value) in [("a", "v a"), ("b", "u c")] {
+        let ty = Rc::new(alloc, term_of(alloc, variables, ty)?)?;
+        let value = Rc::new(alloc, term_of(alloc, inner.as_str(), value)?)?;
+        definitions.push(Definition { ty, value })?;
+    }
+    let body = Rc::new(alloc, term_of(alloc, inner.as_str(), "u v a b")?)?;
+    Ok(Term {
+        inserted: false,
+        node: TermNode::LetRec { definitions, body },
+    })
+}
+
+#[test]
+fn groups_of_definitions(rt: HostRuntime) -> Result<(), Fail> {
+    let alloc = rt.alloc();
+    let t = group(alloc, VARIABLES)?;
+    let (shifted, put) = (group(alloc, SHIFTED)?, group(alloc, PUT)?);
+    assert!(rt; moves(alloc, &t, &shifted, &put)?);
+    assert!(rt; same(&copy(alloc, &t)?, &t));
+    assert!(rt; !same(&t, &put));
+    assert_eq!(rt; size(&t), 16);
+    assert_eq!(rt; nesting(&t), 5);
+    Ok(())
+}
+
+// A copy keeps the mark of what was inserted and the flag of what is implicit; the comparison sets them aside.
+#[test]
+fn marks_and_flags(rt: HostRuntime) -> Result<(), Fail> {
+    let alloc = rt.alloc();
+    let mut t = term_of(alloc, VARIABLES, "\\{x : a}. x")?;
+    t.inserted = true;
+    let copied = copy(alloc, &t)?;
+    assert!(rt; copied.inserted);
+    assert!(rt; matches!(&copied.node, TermNode::Lam { implicit: true, .. }));
+    let u = term_of(alloc, VARIABLES, "\\(x : a). x")?;
+    assert!(rt; same(&t, &u) && same(&copied, &t));
+    assert_eq!(rt; size(&t), 3);
+    Ok(())
+}
