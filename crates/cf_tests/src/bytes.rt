@@ -6,22 +6,6 @@ use std::io;
 use std::io::{ErrorKind, Read, Write};
 use std::test::Fail;
 
-// Five bytes, where the second read fails.
-#[test]
-fn a_source_in_memory(rt: HostRuntime) -> Result<(), Fail> {
-    let fails = vec![in rt.alloc(); 2]?;
-    let mut source = MemSource::new(b"abcde".to_vec(rt.alloc())?, 2, fails);
-    let mut room = [0u8; 3];
-    assert_eq!(rt; source.read(&mut room), Ok(2));
-    assert_eq!(rt; room, *b"ab\0");
-    assert_eq!(rt; source.read(&mut room), Err(Failed));
-    assert_eq!(rt; source.read(&mut room), Ok(2));
-    assert_eq!(rt; room, *b"cd\0");
-    assert_eq!(rt; source.read(&mut room), Ok(1));
-    assert_eq!(rt; source.read(&mut room), Ok(0));
-    Ok(())
-}
-
 // Room for five bytes, where the second write fails.
 #[test]
 fn a_sink_in_memory(rt: HostRuntime) -> Result<(), Fail> {

@@ -1,19 +1,18 @@
-// Programs: the core that is printed for them, their declarations and their classes.
-use crate::building::{core_of, printed, program_of};
-use cf_rules::CoreDecl;
+// Programs: the core that is printed for them, and their classes.
+use crate::building::{printed, program_of};
 use cf_tree::{is_explicit, is_hole_free};
 use std::test::Fail;
 
 // What stands above each term, and how it is printed.
 const ABOVE: &str =
-    "data D (p : ValTy) (q : ValTy) := none() | two(p, D[p, q]); meta f : Nat := #2;";
+    "data D (p : ValTy) (_q : ValTy) := none() | two(p, D[p, _q]); data E := ; meta f : Nat := #2;";
 
 const ABOVE_PRINTED: &str =
-    "explicit;\ndata D (_0 : ValTy) (_1 : ValTy) := none () | two (_0, D[_0, _1]);\nmeta f : Nat := #2;";
+    "explicit;\ndata D (_0 : ValTy) (_1 : ValTy) := none () | two (_0, D[_0, _1]);\ndata E := ;\nmeta f : Nat := #2;";
 
 // Terms with forms that no explicit program has, and how their core is printed. What is left out is a hole, and holes are
 // numbered in the order of the text: those of brackets that are left out stand before those in the fields.
-const TERMS: [(&str, &str); 14] = [
+const TERMS: [(&str, &str); 18] = [
     (
         "\\(x : Int). \\{y : f}. x y",
         "\\(_0 : Int). \\(_1 : f). _0 _1",
@@ -37,6 +36,16 @@ const TERMS: [(&str, &str); 14] = [
     ("suc (suc zero)", "#2"),
     ("^_", "^(?0)"),
     ("(f @ 1) @ -2", "f @ 1 @ -2"),
+    ("case f of { }", "case f : ?0 of { }"),
+    ("E[]", "E[]"),
+    (
+        "eq (lt 1 2) (mul 3 (div 4 (rem 5 6)))",
+        "eq (lt 1 2) (mul 3 (div 4 (rem 5 6)))",
+    ),
+    (
+        "let _ : Int := 1; letrec _ : Int := 2; mlet _ : Int := 3; f",
+        "let _0 : Int := 1; letrec _1 : Int := 2; mlet _2 : Int := 3; f",
+    ),
 ];
 
 #[test]
@@ -49,27 +58,6 @@ fn cores_are_printed(rt: HostRuntime) -> Result<(), Fail> {
         assert_eq!(rt; found.as_str(), lines.as_str(), "{term}");
     }
     Ok(())
-}
-
-#[test]
-fn declarations_of_the_core(rt: HostRuntime) -> Result<(), Fail> {
-    let text = format!(in rt.alloc(); "{ABOVE} main : Int := 7;")?;
-    let core = core_of(rt.alloc(), text.as_str())?;
-    match core.decls.as_slice() {
-        [
-            CoreDecl::DataC(data),
-            CoreDecl::MetaC { name, .. },
-            CoreDecl::ObjectC { name: main, .. },
-        ] => {
-            assert_eq!(rt; data.name.as_str(), "D");
-            assert_eq!(rt; data.params, 2);
-            assert_eq!(rt; data.ctors.len(), 2);
-            assert_eq!(rt; name.as_str(), "f");
-            assert_eq!(rt; main.as_str(), "main");
-            Ok(())
-        }
-        _ => Err(Fail::from("other declarations")),
-    }
 }
 
 // Programs, whether they are explicit, and whether they are hole-free.
