@@ -9,6 +9,9 @@ use cf_tree::Program;
 use std::alloc::Global;
 use std::test::Fail;
 
+/// A data type that stands above terms.
+pub(crate) const DATA: &str = "data D (p : ValTy) (q : ValTy) := none() | one(p) | two(p, q);";
+
 /// The program with this text.
 pub(crate) fn program_of(alloc: Global, text: &str) -> Result<Program, Fail> {
     if text.len() > 1048576 {
@@ -30,25 +33,36 @@ pub(crate) fn printed(alloc: Global, text: &str) -> Result<String, Fail> {
     Ok(String::from_utf8(core_text(alloc, &core)?)?)
 }
 
+fn body_of(decl: CoreDecl) -> Option<Term> {
+    match decl {
+        CoreDecl::MetaC { body, .. } => Some(body),
+        CoreDecl::ObjectC { body, .. } => Some(body),
+        CoreDecl::DataC(_) => None,
+    }
+}
+
 /// The body of the last declaration of the program with this text.
 pub(crate) fn last_body(alloc: Global, text: &str) -> Result<Term, Fail> {
     let mut core = core_of(alloc, text)?;
     match core.decls.pop() {
-        Some(CoreDecl::MetaC { body, .. }) => Ok(body),
-        Some(CoreDecl::ObjectC { body, .. }) => Ok(body),
-        _ => Err(Fail::from("no body")),
+        Some(decl) => Ok(body_of(decl).ok_or("no body")?),
+        None => Err(Fail::from("no declaration")),
     }
+}
+
+/// The term with this text below these declarations.
+pub(crate) fn body_below(alloc: Global, above: &str, text: &str) -> Result<Term, Fail> {
+    let program = format!(in alloc; "{above} main : Int := {text};")?;
+    last_body(alloc, program.as_str())
 }
 
 /// The term with this text, where these letters are its variables, the last of them innermost.
 pub(crate) fn term_of(alloc: Global, variables: &str, text: &str) -> Result<Term, Fail> {
-    let mut program = String::from_str(
-        alloc,
-        "data D (p : ValTy) (q : ValTy) := none() | one(p) | two(p, q); ",
-    )?;
+    let mut above = String::from_str(alloc, DATA)?;
     for name in variables.chars() {
-        program.push_str(format!(in alloc; "{name} : Int := 0; ")?.as_str())?;
+        above.push_str(" ")?;
+        above.push(name)?;
+        above.push_str(" : Int := 0;")?;
     }
-    program.push_str(format!(in alloc; "main : Int := {text};")?.as_str())?;
-    last_body(alloc, program.as_str())
+    body_below(alloc, above.as_str(), text)
 }

@@ -54,89 +54,98 @@ fn texts_are_refused(rt: HostRuntime) -> Result<(), Fail> {
     Ok(())
 }
 
-// A text at a limit: what begins it, what is repeated and how often, what stands between, what is repeated as often again, and
-// what ends it.
-type Long = (
-    &'static str,
-    &'static str,
-    u32,
-    &'static str,
-    &'static str,
-    &'static str,
-);
-
-// Such texts, and why they are refused, if they are.
-const LONG: [(Long, &str); 15] = [
-    (("data D := c(A", ", A", 15, "", "", ");"), "None"),
+// Texts at a limit, as pieces that are repeated so often; and why they are refused, if they are.
+const LONG: [(&[(&str, u32)], &str); 15] = [
+    (&[("data D := c(A", 1), (", A", 15), (");", 1)], "None"),
     (
-        ("data D := c(A", ", A", 16, "", "", ");"),
+        &[("data D := c(A", 1), (", A", 16), (");", 1)],
         "Some(TooMany(At { prelude: false, offset: 60 }, Fields))",
     ),
-    (("a : Int := f", " 1", 16, "", "", ";"), "None"),
+    (&[("a : Int := f", 1), (" 1", 16), (";", 1)], "None"),
     (
-        ("a : Int := f", " 1", 17, "", "", ";"),
+        &[("a : Int := f", 1), (" 1", 17), (";", 1)],
         "Some(TooMany(At { prelude: false, offset: 45 }, Arguments))",
     ),
     (
-        ("a : Int := natrec 1 2 3 4", " {5}", 17, "", "", ";"),
+        &[("a : Int := natrec 1 2 3 4", 1), (" {5}", 17), (";", 1)],
         "Some(TooMany(At { prelude: false, offset: 90 }, Arguments))",
     ),
-    (("a : Int := f", " @ 1", 16, "", "", ";"), "None"),
+    (&[("a : Int := f", 1), (" @ 1", 16), (";", 1)], "None"),
     (
-        ("a : Int := f", " @ 1", 17, "", "", ";"),
+        &[("a : Int := f", 1), (" @ 1", 17), (";", 1)],
         "Some(TooMany(At { prelude: false, offset: 79 }, Arguments))",
     ),
-    (("a : Int := D[x", ", x", 40, "", "", "];"), "None"),
-    (("a : Int := ", "(", 199, "1", ")", ";"), "None"),
+    (&[("a : Int := D[x", 1), (", x", 40), ("];", 1)], "None"),
     (
-        ("a : Int := ", "(", 200, "1", ")", ";"),
+        &[
+            ("a : Int := ", 1),
+            ("(", 199),
+            ("1", 1),
+            (")", 199),
+            (";", 1),
+        ],
+        "None",
+    ),
+    (
+        &[
+            ("a : Int := ", 1),
+            ("(", 200),
+            ("1", 1),
+            (")", 200),
+            (";", 1),
+        ],
         "Some(TooNested(At { prelude: false, offset: 211 }))",
     ),
-    (("a : Int := ", "~", 199, "x", "", ";"), "None"),
+    (&[("a : Int := ", 1), ("~", 199), ("x;", 1)], "None"),
     (
-        ("a : Int := ", "^", 200, "x", "", ";"),
+        &[("a : Int := ", 1), ("^", 200), ("x;", 1)],
         "Some(TooNested(At { prelude: false, offset: 210 }))",
     ),
     (
-        (
-            "a : Int := ",
-            "(",
-            199,
-            "f 1 2 3 4 5 6 7 8 9 10 11 12 13 14 15 16 ~x",
-            ")",
-            ";",
-        ),
-        "Some(TooMany(At { prelude: false, offset: 251 }, Arguments))",
+        &[
+            ("a : Int := ", 1),
+            ("(", 199),
+            ("f", 1),
+            (" 1", 16),
+            (" ~x", 1),
+            (")", 199),
+            (";", 1),
+        ],
+        "Some(TooMany(At { prelude: false, offset: 244 }, Arguments))",
     ),
-    (("meta a : Nat := #6", "4", 1, "", "", ";"), "None"),
+    (&[("meta a : Nat := #64;", 1)], "None"),
     (
-        ("meta a : Nat := #6", "5", 1, "", "", ";"),
+        &[("meta a : Nat := #65;", 1)],
         "Some(Literal(At { prelude: false, offset: 16 }))",
     ),
 ];
 
-fn long_text(alloc: Global, long: &Long) -> Result<String, Fail> {
-    let (front, first, times, middle, second, back) = *long;
-    let mut text = String::from_str(alloc, front)?;
+fn push_often(text: &mut String, piece: &str, times: u32) -> Result<(), Fail> {
     for _ in 0..times {
-        text.push_str(first)?;
+        text.push_str(piece)?;
     }
-    text.push_str(middle)?;
-    for _ in 0..times {
-        text.push_str(second)?;
+    Ok(())
+}
+
+fn long_text(alloc: Global, pieces: &[(&str, u32)]) -> Result<String, Fail> {
+    let mut text = String::new(alloc);
+    for (piece, times) in pieces {
+        push_often(&mut text, piece, *times)?;
     }
-    text.push_str(back)?;
     Ok(text)
+}
+
+fn refusal_shown(alloc: Global, pieces: &[(&str, u32)]) -> Result<String, Fail> {
+    let text = long_text(alloc, pieces)?;
+    let end = refusal(alloc, text.as_str(), false)?;
+    Ok(format!(in alloc; "{end:?}")?)
 }
 
 #[test]
 fn limits_hold(rt: HostRuntime) -> Result<(), Fail> {
-    let alloc = rt.alloc();
-    for (long, want) in &LONG {
-        let text = long_text(alloc, long)?;
-        let end = refusal(alloc, text.as_str(), false)?;
-        let shown = format!(in alloc; "{end:?}")?;
-        assert_eq!(rt; shown.as_str(), *want, "{text}");
+    for (pieces, want) in &LONG {
+        let shown = refusal_shown(rt.alloc(), pieces)?;
+        assert_eq!(rt; shown.as_str(), *want, "at {pieces:?}");
     }
     Ok(())
 }

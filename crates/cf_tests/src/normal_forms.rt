@@ -1,14 +1,15 @@
 // Terms whose values, normal forms, steps and nests are known.
-use crate::building::last_body;
+use crate::building::{DATA, body_below, last_body, term_of};
+use crate::terms::FORMS;
 use cf_eval::{Budget, EvalEnd, Written, evaluate, is_closed, normalise, read_back};
-use cf_term::{Term, TermNode, same};
+use cf_term::{Term, TermNode, same, size};
 use cf_value::{Env, Value, ValueNode};
 use std::alloc::Global;
 use std::rc::Rc;
 use std::test::Fail;
 
 // A meta definition that takes no step.
-const NONE: &str = "meta none : Unit := unit;";
+const NONE: &str = "meta nothing : Unit := unit;";
 
 // `power n x` is the code of a product of n factors x.
 const POWER: &str =
@@ -90,55 +91,83 @@ const ROWS: [(&str, &str, u64, &str); 18] = [
     (NONE, "fn (x : Int). add x 1", 5, "fn (x : Int). add x 1"),
 ];
 
-// The normal form of a term whose one variable stands for the value of a definition that takes no step.
-fn normal(
-    alloc: Global,
-    definition: &Term,
-    t: &Term,
-    budget: Budget,
-) -> Result<Result<Written, EvalEnd>, Fail> {
+// How normalising ends: by the steps that are left, where the normal form is as wanted.
+type End = Result<Option<u64>, EvalEnd>;
+
+// The normal form of a term whose one variable stands for the value of a closed definition that takes no step.
+fn normal(alloc: Global, definition: &Term, t: &Term, budget: Budget) -> Result<Written, EvalEnd> {
     if is_closed(definition, 0) && is_closed(t, 1) {
         let none = Budget { steps: 0, nest: 0 };
         let e = evaluate(alloc, &Env::empty(), definition, 0, none)?;
-        let env = Env::empty().push(alloc, Rc::new(alloc, e.value)?)?;
-        Ok(normalise(alloc, &env, t, 0, budget))
+        let Ok(value) = Rc::new(alloc, e.value) else {
+            return Err(EvalEnd::NoMemory);
+        };
+        let env = Env::empty().push(alloc, value)?;
+        normalise(alloc, &env, t, 0, budget)
     } else {
-        Err(Fail::from("not closed"))
+        Err(EvalEnd::NoMemory)
     }
 }
 
-// How the normalising of a term ends: by the steps that are left, where the normal form is as wanted.
-fn end(
-    alloc: Global,
-    definition: &str,
-    text: &str,
-    budget: Budget,
-    want: &Term,
-) -> Result<Result<u64, EvalEnd>, Fail> {
-    let above = last_body(alloc, definition)?;
-    let program = format!(in alloc; "{definition} main : Int := {text};")?;
-    let t = last_body(alloc, program.as_str())?;
-    match normal(alloc, &above, &t, budget)? {
-        Ok(written) if same(&written.term, want) => Ok(Ok(written.left)),
-        Ok(_) => Err(Fail::from("another normal form")),
-        Err(e) => Ok(Err(e)),
+fn end(alloc: Global, definition: &Term, t: &Term, budget: Budget, want: &Term) -> End {
+    let written = normal(alloc, definition, t, budget)?;
+    if same(&written.term, want) {
+        Ok(Some(written.left))
+    } else {
+        Ok(None)
     }
+}
+
+// The same of texts: a declaration, a term below it, and a term for its normal form.
+fn end_of(alloc: Global, above: &str, text: &str, want: &str, budget: Budget) -> Result<End, Fail> {
+    let definition = last_body(alloc, above)?;
+    let t = body_below(alloc, above, text)?;
+    let want = body_below(alloc, above, want)?;
+    Ok(end(alloc, &definition, &t, budget, &want))
 }
 
 // the number of steps is exact: by one less there is no normal form
 #[test]
 fn terms_have_normal_forms(rt: HostRuntime) -> Result<(), Fail> {
-    let alloc = rt.alloc();
-    for (definition, text, steps, want) in &ROWS {
-        let program = format!(in alloc; "main : Int := {want};")?;
-        let want = last_body(alloc, program.as_str())?;
-        for (steps, left) in [
-            (*steps, Ok(0)),
-            (steps.saturating_sub(1), Err(EvalEnd::Spent)),
-        ] {
-            let budget = Budget { steps, nest: 250 };
-            let found = end(alloc, definition, text, budget, &want)?;
-            assert_eq!(rt; found, left, "{text} by {steps} steps");
+    for (above, text, steps, want) in &ROWS {
+        let budget = Budget {
+            steps: *steps,
+            nest: 250,
+        };
+        let found = end_of(rt.alloc(), above, text, want, budget)?;
+        assert_eq!(rt; found, Ok(Some(0)), "{text}");
+        let short = Budget {
+            steps: steps.saturating_sub(1),
+            nest: 250,
+        };
+        let found = end_of(rt.alloc(), above, text, want, short)?;
+        assert_eq!(rt; found, Err(EvalEnd::Spent), "{text}");
+    }
+    Ok(())
+}
+
+// How a term below lambdas for its variables is normalised to itself with a step for each of its nodes and no nest.
+fn end_of_form(alloc: Global, text: &str) -> Result<End, Fail> {
+    let above = format!(in alloc; "{DATA} {NONE}")?;
+    let program = format!(in alloc;
+        "\\(z : Int). \\(d : z). \\(c : d). \\(b : c). \\(a : b). {text}"
+    )?;
+    let definition = last_body(alloc, above.as_str())?;
+    let t = body_below(alloc, above.as_str(), program.as_str())?;
+    let budget = Budget {
+        steps: size(&t),
+        nest: 0,
+    };
+    Ok(end(alloc, &definition, &t, budget, &t))
+}
+
+// all forms but `mlet`
+#[test]
+fn forms_are_read_back(rt: HostRuntime) -> Result<(), Fail> {
+    for (text, _, _) in &FORMS {
+        if !text.contains("mlet") {
+            let found = end_of_form(rt.alloc(), text)?;
+            assert_eq!(rt; found, Ok(Some(0)), "{text}");
         }
     }
     Ok(())
@@ -147,31 +176,37 @@ fn terms_have_normal_forms(rt: HostRuntime) -> Result<(), Fail> {
 // the second application is open while the recursor's step is, so the nest has to be two
 #[test]
 fn the_nest_of_a_recursion(rt: HostRuntime) -> Result<(), Fail> {
-    let alloc = rt.alloc();
     let text = "natrec (\\(k : Nat). Nat) #0 (\\(k : Nat). \\(r : Nat). suc r) #1";
-    let want = last_body(alloc, "main : Nat := #1;")?;
-    for (nest, left) in [(1, Err(EvalEnd::Deep)), (2, Ok(94))] {
+    for (nest, want) in [(1, Err(EvalEnd::Deep)), (2, Ok(Some(94)))] {
         let budget = Budget { steps: 100, nest };
-        let found = end(alloc, NONE, text, budget, &want)?;
-        assert_eq!(rt; found, left, "a nest of {nest}");
+        let found = end_of(rt.alloc(), NONE, text, "#1", budget)?;
+        assert_eq!(rt; found, want, "a nest of {nest}");
     }
     Ok(())
 }
 
-// In a context of one variable the quote of its splice has this variable as its value, with no step, and it is read back by one.
+// Whether a term in a context of one variable has this variable as its value, with no step, and it is read back by one step.
+fn is_the_variable(alloc: Global, t: &Term) -> Result<bool, EvalEnd> {
+    let Ok(level) = Rc::new(alloc, Value::level(0)) else {
+        return Err(EvalEnd::NoMemory);
+    };
+    let env = Env::empty().push(alloc, level)?;
+    if is_closed(t, 1) {
+        let none = Budget { steps: 0, nest: 0 };
+        let e = evaluate(alloc, &env, t, 1, none)?;
+        let one = Budget { steps: 1, nest: 0 };
+        let w = read_back(alloc, &e.value, 1, one)?;
+        let read = matches!(w.term.node, TermNode::Var(0));
+        Ok(matches!(e.value.node, ValueNode::Level(0)) && read && w.left == 0)
+    } else {
+        Ok(false)
+    }
+}
+
 #[test]
 fn a_quote_of_a_splice_takes_no_step(rt: HostRuntime) -> Result<(), Fail> {
-    let alloc = rt.alloc();
-    let t = last_body(alloc, "x : Int := 0; main : Int := <~x>;")?;
-    let env = Env::empty().push(alloc, Rc::new(alloc, Value::level(0))?)?;
-    assert!(rt; is_closed(&t, 1));
-    let none = Budget { steps: 0, nest: 0 };
-    let e = evaluate(alloc, &env, &t, 1, none)?;
-    assert!(rt; matches!(e.value.node, ValueNode::Level(0)));
-    let one = Budget { steps: 1, nest: 0 };
-    let written = read_back(alloc, &e.value, 1, one)?;
-    assert!(rt; matches!(written.term.node, TermNode::Var(0)));
-    assert_eq!(rt; written.left, 0);
+    let t = body_below(rt.alloc(), "x : Int := 0;", "<~x>")?;
+    assert!(rt; matches!(is_the_variable(rt.alloc(), &t), Ok(true)));
     Ok(())
 }
 
@@ -185,16 +220,21 @@ const CLOSED: [(&str, u32); 6] = [
     ("\\(x : Int). fn (y : x). y x", 0),
 ];
 
+fn least_context(alloc: Global, text: &str) -> Result<Option<u32>, Fail> {
+    let t = term_of(alloc, "dcba", text)?;
+    for variables in 0..5 {
+        if is_closed(&t, variables) {
+            return Ok(Some(variables));
+        }
+    }
+    Ok(None)
+}
+
 #[test]
 fn closed_terms(rt: HostRuntime) -> Result<(), Fail> {
     for (text, least) in &CLOSED {
-        let program = format!(in rt.alloc();
-            "d : Int := 0; c : Int := 0; b : Int := 0; a : Int := 0; main : Int := {text};"
-        )?;
-        let t = last_body(rt.alloc(), program.as_str())?;
-        for variables in 0..5 {
-            assert_eq!(rt; is_closed(&t, variables), variables >= *least, "{text}");
-        }
+        let found = least_context(rt.alloc(), text)?;
+        assert_eq!(rt; found, Some(*least), "{text}");
     }
     Ok(())
 }

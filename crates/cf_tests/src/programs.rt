@@ -1,6 +1,7 @@
 // Programs: the core that is printed for them, and their classes.
 use crate::building::{printed, program_of};
 use cf_tree::{is_explicit, is_hole_free};
+use std::alloc::Global;
 use std::test::Fail;
 
 // What stands above each term, and how it is printed.
@@ -48,14 +49,17 @@ const TERMS: [(&str, &str); 18] = [
     ),
 ];
 
+// Whether the core of a program with this term is printed with this one.
+fn is_printed(alloc: Global, term: &str, want: &str) -> Result<bool, Fail> {
+    let text = format!(in alloc; "{ABOVE} main : Int := {term};")?;
+    let lines = format!(in alloc; "{ABOVE_PRINTED}\nmain : Int := {want};\n")?;
+    Ok(printed(alloc, text.as_str())?.as_str() == lines.as_str())
+}
+
 #[test]
 fn cores_are_printed(rt: HostRuntime) -> Result<(), Fail> {
-    let alloc = rt.alloc();
     for (term, want) in &TERMS {
-        let text = format!(in alloc; "{ABOVE} main : Int := {term};")?;
-        let lines = format!(in alloc; "{ABOVE_PRINTED}\nmain : Int := {want};\n")?;
-        let found = printed(alloc, text.as_str())?;
-        assert_eq!(rt; found.as_str(), lines.as_str(), "{term}");
+        assert!(rt; is_printed(rt.alloc(), term, want)?, "{term}");
     }
     Ok(())
 }
@@ -80,12 +84,16 @@ const CLASSES: [(&str, bool, bool); 16] = [
     ("data D := c(Int) | d(_);", false, false),
 ];
 
+fn classes(alloc: Global, text: &str) -> Result<(bool, bool), Fail> {
+    let program = program_of(alloc, text)?;
+    Ok((is_explicit(&program), is_hole_free(&program)))
+}
+
 #[test]
 fn programs_have_classes(rt: HostRuntime) -> Result<(), Fail> {
     for (text, explicit, hole_free) in &CLASSES {
-        let program = program_of(rt.alloc(), text)?;
-        assert_eq!(rt; is_explicit(&program), *explicit, "{text}");
-        assert_eq!(rt; is_hole_free(&program), *hole_free, "{text}");
+        let found = classes(rt.alloc(), text)?;
+        assert_eq!(rt; found, (*explicit, *hole_free), "{text}");
     }
     Ok(())
 }

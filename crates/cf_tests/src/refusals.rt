@@ -1,6 +1,7 @@
 // The line of each refusal.
 use cf_base::{At, Limit};
 use cf_diag::{Refusal, no_memory_text, refusal_text, write_fault_text};
+use std::alloc::Global;
 use std::test::Fail;
 use wb_decode::What;
 use wb_valid::Part;
@@ -134,11 +135,15 @@ const ROWS: [(Refusal, &str); 43] = [
     (Refusal::Stuck, "refused: stuck\n"),
 ];
 
+fn line(alloc: Global, refusal: &Refusal) -> Result<String, Fail> {
+    Ok(String::from_utf8(refusal_text(alloc, refusal)?)?)
+}
+
 #[test]
 fn refusals_have_lines(rt: HostRuntime) -> Result<(), Fail> {
     for (refusal, want) in &ROWS {
-        let line = String::from_utf8(refusal_text(rt.alloc(), refusal)?)?;
-        assert_eq!(rt; line.as_str(), *want);
+        let found = line(rt.alloc(), refusal)?;
+        assert_eq!(rt; found.as_str(), *want);
     }
     assert_eq!(rt; no_memory_text(), b"refused: no memory\n".as_slice());
     assert_eq!(rt; write_fault_text(), b"refused: write fault\n".as_slice());

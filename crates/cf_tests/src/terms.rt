@@ -1,5 +1,6 @@
 // The calls on each form, and on the terms whose variables are easily mistaken.
 use crate::building::term_of;
+use cf_base::NoMemory;
 use cf_term::{Definition, Term, TermNode, copy, nesting, same, shift, size, subst};
 use std::alloc::Global;
 use std::rc::Rc;
@@ -15,7 +16,7 @@ const SHIFTED: &str = "fgdcbaijklmnopqrzyw";
 const PUT: &str = "agdcbzyw";
 
 // A term of each form with its variables, of some also with those that it binds; how many forms it has, and on how many levels.
-const FORMS: [(&str, u64, u32); 50] = [
+pub(crate) const FORMS: [(&str, u64, u32); 50] = [
     ("a", 1, 1),
     ("z", 1, 1),
     ("MetaTy", 1, 1),
@@ -80,29 +81,41 @@ fn moves(alloc: Global, t: &Term, shifted: &Term, put: &Term) -> Result<bool, Fa
     Ok(same(&raised, shifted) && same(&replaced, put))
 }
 
+fn form_moves(alloc: Global, text: &str) -> Result<bool, Fail> {
+    let t = term_of(alloc, VARIABLES, text)?;
+    let shifted = term_of(alloc, SHIFTED, text)?;
+    let put = term_of(alloc, PUT, text)?;
+    moves(alloc, &t, &shifted, &put)
+}
+
 #[test]
 fn forms_are_moved(rt: HostRuntime) -> Result<(), Fail> {
-    let alloc = rt.alloc();
     for (text, _, _) in &FORMS {
-        let t = term_of(alloc, VARIABLES, text)?;
-        let shifted = term_of(alloc, SHIFTED, text)?;
-        let put = term_of(alloc, PUT, text)?;
-        assert!(rt; moves(alloc, &t, &shifted, &put)?, "{text}");
+        assert!(rt; form_moves(rt.alloc(), text)?, "{text}");
     }
     Ok(())
 }
 
+// How many forms the copy of a term has, and on how many levels; nothing where it differs from the term.
+fn copy_measured(alloc: Global, t: &Term) -> Result<Option<(u64, u32)>, NoMemory> {
+    let copied = copy(alloc, t)?;
+    if same(&copied, t) {
+        Ok(Some((size(&copied), nesting(&copied))))
+    } else {
+        Ok(None)
+    }
+}
+
+fn form_measured(alloc: Global, text: &str) -> Result<Option<(u64, u32)>, Fail> {
+    let t = term_of(alloc, VARIABLES, text)?;
+    Ok(copy_measured(alloc, &t)?)
+}
+
 #[test]
-fn forms_are_measured_and_copied(rt: HostRuntime) -> Result<(), Fail> {
-    let alloc = rt.alloc();
-    let mut last = term_of(alloc, VARIABLES, "b")?;
+fn forms_are_copied_and_measured(rt: HostRuntime) -> Result<(), Fail> {
     for (text, forms, levels) in &FORMS {
-        let t = term_of(alloc, VARIABLES, text)?;
-        let copied = copy(alloc, &t)?;
-        assert!(rt; same(&copied, &t) && !same(&copied, &last), "{text}");
-        assert_eq!(rt; size(&copied), *forms, "{text}");
-        assert_eq!(rt; nesting(&copied), *levels, "{text}");
-        last = t;
+        let found = form_measured(rt.alloc(), text)?;
+        assert_eq!(rt; found, Some((*forms, *levels)), "{text}");
     }
     Ok(())
 }
@@ -143,14 +156,17 @@ const PUT_IN: [(&str, &str, &str); 8] = [
     ("cons b (cons d z)", "w", "cons b (cons d z)"),
 ];
 
+fn is_put_in(alloc: Global, text: &str, by: &str, want: &str) -> Result<bool, Fail> {
+    let t = term_of(alloc, VARIABLES, text)?;
+    let by = term_of(alloc, "fgdcbzyw", by)?;
+    let want = term_of(alloc, "fgdcbzyw", want)?;
+    Ok(same(&subst(alloc, &t, 3, &by)?, &want))
+}
+
 #[test]
 fn no_variable_is_captured(rt: HostRuntime) -> Result<(), Fail> {
-    let alloc = rt.alloc();
     for (text, by, want) in &PUT_IN {
-        let t = term_of(alloc, VARIABLES, text)?;
-        let by = term_of(alloc, "fgdcbzyw", by)?;
-        let want = term_of(alloc, "fgdcbzyw", want)?;
-        assert!(rt; same(&subst(alloc, &t, 3, &by)?, &want), "{text}");
+        assert!(rt; is_put_in(rt.alloc(), text, by, want)?, "{text}");
     }
     Ok(())
 }
@@ -175,26 +191,33 @@ const DIFFERENT: [(&str, &str); 10] = [
     ),
 ];
 
+fn are_same(alloc: Global, text: &str, other: &str) -> Result<bool, Fail> {
+    let t = term_of(alloc, VARIABLES, text)?;
+    let u = term_of(alloc, VARIABLES, other)?;
+    Ok(same(&t, &u))
+}
+
 #[test]
 fn others_differ(rt: HostRuntime) -> Result<(), Fail> {
     for (text, other) in &DIFFERENT {
-        let t = term_of(rt.alloc(), VARIABLES, text)?;
-        let u = term_of(rt.alloc(), VARIABLES, other)?;
-        assert!(rt; !same(&t, &u), "{text}");
+        assert!(rt; !are_same(rt.alloc(), text, other)?, "{text}");
     }
     Ok(())
 }
 
-// A group of two definitions in the scope of these variables; no text has one.
-fn group(alloc: Global, variables: &str) -> Result<Term, Fail> {
-    let inner = format!(in alloc; "{variables}uv")?;
+fn shared(alloc: Global, variables: &str, text: &str) -> Result<Rc<Term>, Fail> {
+    Ok(Rc::new(alloc, term_of(alloc, variables, text)?)?)
+}
+
+// A group of two definitions, whose variables are `u` and `v`; no text has one.
+fn group(alloc: Global, outer: &str, inner: &str) -> Result<Term, Fail> {
     let mut definitions = Vec::new(alloc);
     for (ty, value) in [("a", "v a"), ("b", "u c")] {
-        let ty = Rc::new(alloc, term_of(alloc, variables, ty)?)?;
-        let value = Rc::new(alloc, term_of(alloc, inner.as_str(), value)?)?;
+        let ty = shared(alloc, outer, ty)?;
+        let value = shared(alloc, inner, value)?;
         definitions.push(Definition { ty, value })?;
     }
-    let body = Rc::new(alloc, term_of(alloc, inner.as_str(), "u v a b")?)?;
+    let body = shared(alloc, inner, "u v a b")?;
     Ok(Term {
         inserted: false,
         node: TermNode::LetRec { definitions, body },
@@ -204,13 +227,12 @@ fn group(alloc: Global, variables: &str) -> Result<Term, Fail> {
 #[test]
 fn groups_of_definitions(rt: HostRuntime) -> Result<(), Fail> {
     let alloc = rt.alloc();
-    let t = group(alloc, VARIABLES)?;
-    let (shifted, put) = (group(alloc, SHIFTED)?, group(alloc, PUT)?);
+    let t = group(alloc, VARIABLES, "fgdcbazywuv")?;
+    let shifted = group(alloc, SHIFTED, "fgdcbaijklmnopqrzywuv")?;
+    let put = group(alloc, PUT, "agdcbzywuv")?;
     assert!(rt; moves(alloc, &t, &shifted, &put)?);
-    assert!(rt; same(&copy(alloc, &t)?, &t));
+    assert_eq!(rt; copy_measured(alloc, &t)?, Some((16, 5)));
     assert!(rt; !same(&t, &put));
-    assert_eq!(rt; size(&t), 16);
-    assert_eq!(rt; nesting(&t), 5);
     Ok(())
 }
 
