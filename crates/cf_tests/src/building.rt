@@ -66,3 +66,46 @@ pub(crate) fn term_of(alloc: Global, variables: &str, text: &str) -> Result<Term
     }
     body_below(alloc, above.as_str(), text)
 }
+
+/// The two fields of a row.
+pub(crate) fn two(row: &str) -> Result<(&str, &str), Fail> {
+    Ok(row.split_once(" § ").ok_or("not two fields")?)
+}
+
+/// The three fields of a row.
+pub(crate) fn three(row: &str) -> Result<(&str, &str, &str), Fail> {
+    let (first, rest) = two(row)?;
+    let (second, third) = two(rest)?;
+    Ok((first, second, third))
+}
+
+/// The number of a field.
+pub(crate) fn number(field: &str) -> Result<u32, Fail> {
+    match field.parse::<u32>() {
+        Ok(n) => Ok(n),
+        Err(_) => Err(Fail::from("no number")),
+    }
+}
+
+/// So many times the piece.
+fn push_repeated(text: &mut String, count: u32, piece: &str) -> Result<(), Fail> {
+    for _ in 0..count {
+        text.push_str(piece)?;
+    }
+    Ok(())
+}
+
+/// The text where each second part between `×` is repeated, as `×3:ab×` for `ababab`.
+pub(crate) fn expanded(alloc: Global, row: &str) -> Result<String, Fail> {
+    let mut text = String::new(alloc);
+    for part in row.split('×') {
+        match part.split_once(':') {
+            Some((count, piece)) => match count.parse::<u32>() {
+                Ok(count) => push_repeated(&mut text, count, piece)?,
+                Err(_) => text.push_str(part)?,
+            },
+            None => text.push_str(part)?,
+        }
+    }
+    Ok(text)
+}

@@ -1,51 +1,31 @@
 // The tokens of small texts, and where a text is refused.
+use crate::building::two;
 use cf_lex::{Token, Tokens, tokens};
 use std::alloc::Global;
 use std::test::Fail;
 
-// Texts, and their tokens as `kind=text`, one behind the other.
-const ROWS: [(&[u8], &str); 22] = [
-    (b"a", "Name(0)=a "),
-    (b"_x _ x", "Name(0)=_x Hole=_ Name(1)=x "),
-    (
-        b"b a b c a",
-        "Name(0)=b Name(1)=a Name(0)=b Name(2)=c Name(1)=a ",
-    ),
-    (b"let x letx", "Word(Let)=let Name(0)=x Name(1)=letx "),
-    (
-        b"\xc3\xa9t\xc3\xa9 \xce\xbb \xc3\xa9t\xc3\xa9",
-        "Name(0)=été Name(1)=λ Name(0)=été ",
-    ),
-    (b"007 -0 #5", "Whole=007 Whole=-0 NatLit=#5 "),
-    (b"1x a-1", "Whole=1 Name(0)=x Name(1)=a Whole=-1 "),
-    (b"3--4\n5", "Whole=3 Whole=5 "),
-    (b"-- % =", ""),
-    (b"x -- c \r d\n\t y", "Name(0)=x Name(1)=y "),
-    (
-        b"a->b:=:",
-        "Name(0)=a Mark(Arrow)=-> Name(1)=b Mark(Becomes)=:= Mark(Colon)=: ",
-    ),
-    (b"-", "BadChar(0)"),
-    (b"5-", "BadChar(1)"),
-    (b"a =b", "BadChar(2)"),
-    (b"#a", "BadChar(0)"),
-    (b"1 % 2", "BadChar(2)"),
-    (b"\xc3\xa9%", "BadChar(2)"),
-    (b"\xff", "NotText(0)"),
-    (b"ab\xce", "NotText(2)"),
-    (
-        b"explicit use prelude data meta let letrec mlet fn case of fail con pair fst snd MetaTy ValTy CompTy Ty Pi Sig Unit unit",
-        "Word(Explicit)=explicit Word(Use)=use Word(Prelude)=prelude Word(Data)=data Word(Meta)=meta Word(Let)=let Word(LetRec)=letrec Word(MetaLet)=mlet Word(Fn)=fn Word(Case)=case Word(Of)=of Word(Fail)=fail Word(Con)=con Word(Pair)=pair Word(Fst)=fst Word(Snd)=snd Word(MetaTy)=MetaTy Word(ValTy)=ValTy Word(CompTy)=CompTy Word(Ty)=Ty Word(Pi)=Pi Word(Sig)=Sig Word(UnitTy)=Unit Word(Unit)=unit ",
-    ),
-    (
-        b"unitrec Bool true false boolrec Nat zero suc natrec List nil cons listrec V C Int add sub mul div rem eq lt and",
-        "Word(UnitRec)=unitrec Word(BoolTy)=Bool Word(True)=true Word(False)=false Word(BoolRec)=boolrec Word(NatTy)=Nat Word(Zero)=zero Word(Suc)=suc Word(NatRec)=natrec Word(ListTy)=List Word(Nil)=nil Word(Cons)=cons Word(ListRec)=listrec Word(V)=V Word(C)=C Word(IntTy)=Int Word(Add)=add Word(Sub)=sub Word(Mul)=mul Word(Div)=div Word(Rem)=rem Word(Eq)=eq Word(Lt)=lt Word(And)=and ",
-    ),
-    (
-        b"( ) [ ] { } < > ~ ^ : := ; . , | -> => \\ @",
-        "Mark(OpenParen)=( Mark(CloseParen)=) Mark(OpenBracket)=[ Mark(CloseBracket)=] Mark(OpenBrace)={ Mark(CloseBrace)=} Mark(Less)=< Mark(Greater)=> Mark(Tilde)=~ Mark(Caret)=^ Mark(Colon)=: Mark(Becomes)=:= Mark(Semicolon)=; Mark(Dot)=. Mark(Comma)=, Mark(Bar)=| Mark(Arrow)=-> Mark(DoubleArrow)==> Mark(Backslash)=\\ Mark(At)=@ ",
-    ),
-];
+// Texts, and their tokens as `kind=text`, one behind the other, a row a line. `¶`, `␍` and `␉` stand for a line feed, a carriage return and a
+// tab.
+const ROWS: &str = "a § Name(0)=a
+_x _ x § Name(0)=_x Hole=_ Name(1)=x
+b a b c a § Name(0)=b Name(1)=a Name(0)=b Name(2)=c Name(1)=a
+let x letx § Word(Let)=let Name(0)=x Name(1)=letx
+été λ été § Name(0)=été Name(1)=λ Name(0)=été
+007 -0 #5 § Whole=007 Whole=-0 NatLit=#5
+1x a-1 § Whole=1 Name(0)=x Name(1)=a Whole=-1
+3--4¶5 § Whole=3 Whole=5
+-- % = § 
+x -- c ␍ d¶␉ y § Name(0)=x Name(1)=y
+a->b:=: § Name(0)=a Mark(Arrow)=-> Name(1)=b Mark(Becomes)=:= Mark(Colon)=:
+- § BadChar(0)
+5- § BadChar(1)
+a =b § BadChar(2)
+#a § BadChar(0)
+1 % 2 § BadChar(2)
+é% § BadChar(2)
+explicit use prelude data meta let letrec mlet fn case of fail con pair fst snd MetaTy ValTy CompTy Ty Pi Sig Unit unit § Word(Explicit)=explicit Word(Use)=use Word(Prelude)=prelude Word(Data)=data Word(Meta)=meta Word(Let)=let Word(LetRec)=letrec Word(MetaLet)=mlet Word(Fn)=fn Word(Case)=case Word(Of)=of Word(Fail)=fail Word(Con)=con Word(Pair)=pair Word(Fst)=fst Word(Snd)=snd Word(MetaTy)=MetaTy Word(ValTy)=ValTy Word(CompTy)=CompTy Word(Ty)=Ty Word(Pi)=Pi Word(Sig)=Sig Word(UnitTy)=Unit Word(Unit)=unit
+unitrec Bool true false boolrec Nat zero suc natrec List nil cons listrec V C Int add sub mul div rem eq lt and § Word(UnitRec)=unitrec Word(BoolTy)=Bool Word(True)=true Word(False)=false Word(BoolRec)=boolrec Word(NatTy)=Nat Word(Zero)=zero Word(Suc)=suc Word(NatRec)=natrec Word(ListTy)=List Word(Nil)=nil Word(Cons)=cons Word(ListRec)=listrec Word(V)=V Word(C)=C Word(IntTy)=Int Word(Add)=add Word(Sub)=sub Word(Mul)=mul Word(Div)=div Word(Rem)=rem Word(Eq)=eq Word(Lt)=lt Word(And)=and
+( ) [ ] { } < > ~ ^ : := ; . , | -> => \\ @ § Mark(OpenParen)=( Mark(CloseParen)=) Mark(OpenBracket)=[ Mark(CloseBracket)=] Mark(OpenBrace)={ Mark(CloseBrace)=} Mark(Less)=< Mark(Greater)=> Mark(Tilde)=~ Mark(Caret)=^ Mark(Colon)=: Mark(Becomes)=:= Mark(Semicolon)=; Mark(Dot)=. Mark(Comma)=, Mark(Bar)=| Mark(Arrow)=-> Mark(DoubleArrow)==> Mark(Backslash)=\\ Mark(At)=@";
 
 // The token at an index, as `kind=text`.
 fn token_shown(alloc: Global, found: &Tokens, i: u32) -> Result<String, Fail> {
@@ -79,12 +59,26 @@ fn longest_shown(alloc: Global) -> Result<String, Fail> {
     shown(alloc, blanks.as_slice())
 }
 
+fn is_so(alloc: Global, row: &str) -> Result<bool, Fail> {
+    let (text, want) = two(row)?;
+    let text = text.replace(alloc, "¶", "\n")?;
+    let text = text.replace(alloc, "␍", "\r")?;
+    let text = text.replace(alloc, "␉", "\t")?;
+    Ok(shown(alloc, text.as_bytes())?.trim_end() == want)
+}
+
 #[test]
 fn texts_have_tokens(rt: HostRuntime) -> Result<(), Fail> {
-    for (text, want) in &ROWS {
-        let answer = shown(rt.alloc(), text)?;
-        assert_eq!(rt; answer.as_str(), *want, "at {text:?}");
+    for row in ROWS.lines() {
+        assert!(rt; is_so(rt.alloc(), row)?, "{row}");
     }
     assert!(rt; longest_shown(rt.alloc())?.is_empty());
+    Ok(())
+}
+
+#[test]
+fn other_bytes_are_no_text(rt: HostRuntime) -> Result<(), Fail> {
+    assert_eq!(rt; shown(rt.alloc(), b"\xff")?.as_str(), "NotText(0)");
+    assert_eq!(rt; shown(rt.alloc(), b"ab\xce")?.as_str(), "NotText(2)");
     Ok(())
 }

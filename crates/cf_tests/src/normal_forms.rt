@@ -1,5 +1,5 @@
 // Terms whose values, normal forms, steps and nests are known.
-use crate::building::{DATA, body_below, last_body, term_of};
+use crate::building::{DATA, body_below, last_body, number, term_of, three};
 use crate::terms::FORMS;
 use cf_eval::{Budget, EvalEnd, Written, evaluate, is_closed, normalise, read_back};
 use cf_term::{Term, TermNode, same, size};
@@ -19,77 +19,30 @@ const POWER: &str =
 const AFTER: &str =
     "meta after : Pi (c : ^(V Int)) -> ^(V Int) := \\(c : ^(V Int)). <let y : V Int := 100; add y ~c>;";
 
-// A meta definition, a term below it, the steps to its normal form, and this. A step is a reduction, and a node that is written.
-const ROWS: [(&str, &str, u64, &str); 18] = [
-    // of `power` 2 applications; of `natrec` 1 step at zero, and at each successor 5: its own, 2 applications, 2 splices; the
-    // splice outside; 13 nodes
-    (
-        POWER,
-        "fn (x : Int). ~(power #5 <x>)",
-        42,
-        "fn (x : Int). mul x (mul x (mul x (mul x (mul x 1))))",
-    ),
-    // one application, two splices and nine nodes
-    (
-        AFTER,
-        "fn (x : Int). ~(after <x>)",
-        12,
-        "fn (x : Int). let y : V Int := 100; add y x",
-    ),
-    // the step and two nodes
-    (NONE, "(\\(x : Nat). suc x) #0", 3, "#1"),
-    (NONE, "mlet x : Nat := #0; suc x", 3, "#1"),
-    // the step, and the nodes of the component
-    (NONE, "fst (pair (Sig (x : Nat), Nat) #0 #1)", 2, "#0"),
-    (NONE, "snd (pair (Sig (x : Nat), Nat) #0 #1)", 3, "#1"),
-    // the step, and the nodes of the case
-    (NONE, "unitrec (\\(u : Unit). Nat) #2 unit", 4, "#2"),
-    (NONE, "boolrec (\\(b : Bool). Nat) #0 #1 true", 2, "#0"),
-    (NONE, "boolrec (\\(b : Bool). Nat) #0 #1 false", 3, "#1"),
-    // at a successor the recursor and two applications, at zero the recursor; and the nodes
-    (
-        NONE,
-        "natrec (\\(k : Nat). Nat) #0 (\\(k : Nat). \\(r : Nat). suc r) #0",
-        2,
-        "#0",
-    ),
-    (
-        NONE,
-        "natrec (\\(k : Nat). Nat) #0 (\\(k : Nat). \\(r : Nat). suc r) #1",
-        6,
-        "#1",
-    ),
-    (
-        NONE,
-        "natrec (\\(k : Nat). Nat) #0 (\\(k : Nat). \\(r : Nat). k) #2",
-        9,
-        "#1",
-    ),
-    // at an item the recursor and three applications, at the end the recursor; and the nodes
-    (
-        NONE,
-        "listrec (\\(l : List Nat). Nat) #0 (\\(x : Nat). \\(l : List Nat). \\(r : Nat). suc r) (nil Nat)",
-        2,
-        "#0",
-    ),
-    (
-        NONE,
-        "listrec (\\(l : List Nat). Nat) #0 (\\(x : Nat). \\(l : List Nat). \\(r : Nat). suc r) (cons #7 (nil Nat))",
-        7,
-        "#1",
-    ),
-    (
-        NONE,
-        "listrec (\\(l : List Nat). List Nat) (nil Nat) (\\(x : Nat). \\(l : List Nat). \\(r : List Nat). cons x l) (cons #0 (cons #1 (nil Nat)))",
-        16,
-        "cons #0 (cons #1 (nil Nat))",
-    ),
-    // the step and a node
-    (NONE, "~<1>", 2, "1"),
-    (NONE, "<~<1>>", 3, "<1>"),
-    // nodes alone
-    (NONE, "fn (x : Int). add x 1", 5, "fn (x : Int). add x 1"),
-];
+// A meta definition by its name, the steps to the normal form of a term below it, the term, and its normal form, a row a line. A step is a
+// reduction, and a node that is written:
+// of `power` 2 applications; of `natrec` 1 step at zero, and at each successor 5: its own, 2 applications, 2 splices; the splice outside; 13
+// nodes; of `after` one application, two splices and nine nodes; of a redex the step, and the nodes of what it becomes; of a recursor one at
+// each constructor, with an application for each argument of its case.
+const ROWS: &str =
+    "power 42 § fn (x : Int). ~(power #5 <x>) § fn (x : Int). mul x (mul x (mul x (mul x (mul x 1))))
+after 12 § fn (x : Int). ~(after <x>) § fn (x : Int). let y : V Int := 100; add y x
+none 3 § (\\(x : Nat). suc x) #0 § #1
+none 3 § mlet x : Nat := #0; suc x § #1
+none 2 § fst (pair (Sig (x : Nat), Nat) #0 #1) § #0
+none 3 § snd (pair (Sig (x : Nat), Nat) #0 #1) § #1
+none 4 § unitrec (\\(u : Unit). Nat) #2 unit § #2
+none 2 § boolrec (\\(b : Bool). Nat) #0 #1 true § #0
+none 3 § boolrec (\\(b : Bool). Nat) #0 #1 false § #1
+none 2 § natrec (\\(k : Nat). Nat) #0 (\\(k : Nat). \\(r : Nat). suc r) #0 § #0
+none 6 § natrec (\\(k : Nat). Nat) #0 (\\(k : Nat). \\(r : Nat). suc r) #1 § #1
+none 9 § natrec (\\(k : Nat). Nat) #0 (\\(k : Nat). \\(r : Nat). k) #2 § #1
+none 2 § listrec (\\(l : List Nat). Nat) #0 (\\(x : Nat). \\(l : List Nat). \\(r : Nat). suc r) (nil Nat) § #0
+none 7 § listrec (\\(l : List Nat). Nat) #0 (\\(x : Nat). \\(l : List Nat). \\(r : Nat). suc r) (cons #7 (nil Nat)) § #1
+none 16 § listrec (\\(l : List Nat). List Nat) (nil Nat) (\\(x : Nat). \\(l : List Nat). \\(r : List Nat). cons x l) (cons #0 (cons #1 (nil Nat))) § cons #0 (cons #1 (nil Nat))
+none 2 § ~<1> § 1
+none 3 § <~<1>> § <1>
+none 5 § fn (x : Int). add x 1 § fn (x : Int). add x 1";
 
 // How normalising ends: by the steps that are left, where the normal form is as wanted.
 type End = Result<Option<u64>, EvalEnd>;
@@ -126,22 +79,32 @@ fn end_of(alloc: Global, above: &str, text: &str, want: &str, budget: Budget) ->
     Ok(end(alloc, &definition, &t, budget, &want))
 }
 
+// The definition with this name.
+fn definition(name: &str) -> &'static str {
+    match name {
+        "power" => POWER,
+        "after" => AFTER,
+        _ => NONE,
+    }
+}
+
 // the number of steps is exact: by one less there is no normal form
+fn is_normal_form(alloc: Global, row: &str) -> Result<bool, Fail> {
+    let (front, text, want) = three(row)?;
+    let (name, steps) = front.split_once(' ').ok_or("no steps")?;
+    let steps = u64::from(number(steps)?);
+    let nest = 250;
+    let above = definition(name);
+    let exact = end_of(alloc, above, text, want, Budget { steps, nest })?;
+    let steps = steps.saturating_sub(1);
+    let short = end_of(alloc, above, text, want, Budget { steps, nest })?;
+    Ok(exact == Ok(Some(0)) && short == Err(EvalEnd::Spent))
+}
+
 #[test]
 fn terms_have_normal_forms(rt: HostRuntime) -> Result<(), Fail> {
-    for (above, text, steps, want) in &ROWS {
-        let budget = Budget {
-            steps: *steps,
-            nest: 250,
-        };
-        let found = end_of(rt.alloc(), above, text, want, budget)?;
-        assert_eq!(rt; found, Ok(Some(0)), "{text}");
-        let short = Budget {
-            steps: steps.saturating_sub(1),
-            nest: 250,
-        };
-        let found = end_of(rt.alloc(), above, text, want, short)?;
-        assert_eq!(rt; found, Err(EvalEnd::Spent), "{text}");
+    for row in ROWS.lines() {
+        assert!(rt; is_normal_form(rt.alloc(), row)?, "{row}");
     }
     Ok(())
 }
@@ -162,13 +125,15 @@ fn end_of_form(alloc: Global, text: &str) -> Result<End, Fail> {
 }
 
 // all forms but `mlet`
+fn is_read_back(alloc: Global, row: &str) -> Result<bool, Fail> {
+    let (_, _, text) = three(row)?;
+    Ok(text.contains("mlet") || end_of_form(alloc, text)? == Ok(Some(0)))
+}
+
 #[test]
 fn forms_are_read_back(rt: HostRuntime) -> Result<(), Fail> {
-    for (text, _, _) in &FORMS {
-        if !text.contains("mlet") {
-            let found = end_of_form(rt.alloc(), text)?;
-            assert_eq!(rt; found, Ok(Some(0)), "{text}");
-        }
+    for row in FORMS.lines() {
+        assert!(rt; is_read_back(rt.alloc(), row)?, "{row}");
     }
     Ok(())
 }
