@@ -32,8 +32,8 @@ two_steps = refl
 sum_by_loop : Obj
 sum_by_loop =
     LetRec (AndDef (Arrow WholeT (Arrow WholeT (Value WholeT))) (OLam WholeT (OLam WholeT (Case (Prim Lt (Var 1) (Lit (pos 1))) (Value WholeT)
-    (AndBranch 0 (OApp (OApp (Var 2) (Prim Sub (Var 1) (Lit (pos 1)))) (Prim Add (Var 0) (Var 1)))
-    (AndBranch 0 (Var 0) NoBranches))))) NoDefs)
+    (AndBranch 0 0 0 (OApp (OApp (Var 2) (Prim Sub (Var 1) (Lit (pos 1)))) (Prim Add (Var 0) (Var 1)))
+    (AndBranch 0 1 0 (Var 0) NoBranches))))) NoDefs)
     (OApp (OApp (Var 0) (Var 1)) (Lit (pos 0)))
 
 -- jumps are no calls
@@ -45,8 +45,8 @@ loop_makes_no_call = refl
 sum_by_calls : Obj
 sum_by_calls =
     LetRec (AndDef (Arrow WholeT (Value WholeT)) (OLam WholeT (Case (Prim Lt (Var 0) (Lit (pos 1))) (Value WholeT)
-    (AndBranch 0 (Prim Add (Var 0) (OApp (Var 1) (Prim Sub (Var 0) (Lit (pos 1)))))
-    (AndBranch 0 (Lit (pos 0)) NoBranches)))) NoDefs)
+    (AndBranch 0 0 0 (Prim Add (Var 0) (OApp (Var 1) (Prim Sub (Var 0) (Lit (pos 1)))))
+    (AndBranch 0 1 0 (Lit (pos 0)) NoBranches)))) NoDefs)
     (OApp (Var 0) (Var 1))
 
 -- a call is made for each number from 3 down to 0, and all are open at the last
@@ -55,13 +55,13 @@ unfolding main_of sum_by_calls
 calls_are_counted = refl
 
 -- an argument is evaluated before what it is applied to
-argument_first : program_run (main_is (OApp (Case (Prim Eq (Lit (pos 1)) (Lit (pos 1))) (Arrow WholeT (Value WholeT)) (AndBranch 0 (OLam WholeT (Var 0)) (AndBranch 0 (Fail (Arrow WholeT (Value WholeT))) NoBranches))) (Prim Div (Lit (pos 1)) (Lit (pos 0))))) [] 0 10 ≡ Ended DivideByZero 0 0
+argument_first : program_run (main_is (OApp (Case (Prim Eq (Lit (pos 1)) (Lit (pos 1))) (Arrow WholeT (Value WholeT)) (AndBranch 0 0 0 (OLam WholeT (Var 0)) (AndBranch 0 1 0 (Fail (Arrow WholeT (Value WholeT))) NoBranches))) (Prim Div (Lit (pos 1)) (Lit (pos 0))))) [] 0 10 ≡ Ended DivideByZero 0 0
 unfolding main_is
 argument_first = refl
 
 -- a constructor with one field takes 16 bytes
 one_cell : Obj
-one_cell = Case (Con 1 0 NoTypes (AndObj (Lit (pos 5)) NoObjs)) (Value WholeT) (AndBranch 1 (Var 0) NoBranches)
+one_cell = Case (Con 1 0 NoTypes (AndObj (Lit (pos 5)) NoObjs)) (Value WholeT) (AndBranch 1 0 1 (Var 0) NoBranches)
 
 cell_fits : program_run (main_is one_cell) [] 16 10 ≡ Ended (Returned (pos 5)) 0 0
 unfolding main_is one_cell
@@ -73,7 +73,7 @@ cell_does_not_fit = refl
 
 -- the last name of a branch has index 0: 5 - 7 over the fields 5 and 7
 difference_of_fields : Obj
-difference_of_fields = Case (Con 1 0 NoTypes (AndObj (Lit (pos 5)) (AndObj (Lit (pos 7)) NoObjs))) (Value WholeT) (AndBranch 2 (Prim Sub (Var 1) (Var 0)) NoBranches)
+difference_of_fields = Case (Con 1 0 NoTypes (AndObj (Lit (pos 5)) (AndObj (Lit (pos 7)) NoObjs))) (Value WholeT) (AndBranch 1 0 2 (Prim Sub (Var 1) (Var 0)) NoBranches)
 
 fields_keep_their_order : program_run (main_is difference_of_fields) [] 24 50 ≡ Ended (Returned (negsuc 1)) 0 0
 unfolding main_is difference_of_fields
@@ -95,7 +95,7 @@ rest_of_minus_seven = refl
 
 -- case a < 1 of { no . u | yes . v }
 if_positive : Obj → Obj → Obj → Obj
-if_positive a u v = Case (Prim Lt a (Lit (pos 1))) (Value WholeT) (AndBranch 0 u (AndBranch 0 v NoBranches))
+if_positive a u v = Case (Prim Lt a (Lit (pos 1))) (Value WholeT) (AndBranch 0 0 0 u (AndBranch 0 1 0 v NoBranches))
 
 -- t - 1
 less_one : Obj → Obj
