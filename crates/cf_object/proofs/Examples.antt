@@ -54,9 +54,16 @@ calls_are_counted : program_run (main_of sum_by_calls) (pos 3 ∷ []) 0 100 ≡ 
 unfolding main_of sum_by_calls
 calls_are_counted = refl
 
+-- case 1 == 1 of { no . fn x. x | yes . fail } @ div 1 0
+failing_twice : Obj
+failing_twice =
+    OApp (Case (Prim Eq (Lit (pos 1)) (Lit (pos 1))) (Arrow WholeT (Value WholeT))
+    (AndBranch 0 0 0 (OLam WholeT (Var 0)) (AndBranch 0 1 0 (Fail (Arrow WholeT (Value WholeT))) NoBranches)))
+    (Prim Div (Lit (pos 1)) (Lit (pos 0)))
+
 -- an argument is evaluated before what it is applied to
-argument_first : program_run (main_is (OApp (Case (Prim Eq (Lit (pos 1)) (Lit (pos 1))) (Arrow WholeT (Value WholeT)) (AndBranch 0 0 0 (OLam WholeT (Var 0)) (AndBranch 0 1 0 (Fail (Arrow WholeT (Value WholeT))) NoBranches))) (Prim Div (Lit (pos 1)) (Lit (pos 0))))) [] 0 10 ≡ Ended DivideByZero 0 0
-unfolding main_is
+argument_first : program_run (main_is failing_twice) [] 0 10 ≡ Ended DivideByZero 0 0
+unfolding main_is failing_twice
 argument_first = refl
 
 -- a constructor with one field takes 16 bytes

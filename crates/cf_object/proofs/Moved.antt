@@ -18,7 +18,8 @@ module _ (region : ℕ) where
   abbrev open_after : ℕ → Next → ℕ
   open_after n m = elim m [ object.Goes t ↦ max t.calls_open (most_open region n t) | object.Ends o ↦ 0 | object.Lost ↦ 0 ]
 
-  reaches_after : (n : ℕ) (s : State) (peak : ℕ) → ((t : State) (p : ℕ) → reach (object_step region) n t ≡ reached region (run region n t p)) → (m : Next) → reach_after n m ≡ reached region (after region (run region n) s peak m)
+  reaches_after : (n : ℕ) (s : State) (peak : ℕ) → ((t : State) (p : ℕ) → reach (object_step region) n t ≡ reached region (run region n t p))
+      → (m : Next) → reach_after n m ≡ reached region (after region (run region n) s peak m)
   reaches_after n s peak ih (object.Goes t) = ih t (max peak t.calls_open)
   reaches_after n s peak ih (object.Ends o) = refl
   reaches_after n s peak ih object.Lost = refl

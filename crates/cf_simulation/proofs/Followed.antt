@@ -27,7 +27,8 @@ module _ {T P : Type 0} (g : T → Move T P) where
       let p : suc k + j ≡ suc (k + j) = omega arith in
       ap (λ n. reach g n t) p ∙ more_on k j (reach_more k j) (g t) t' e
 
-  weigh_on : (w : T → ℕ) (t : T) (k j : ℕ) → ((s t' : T) → reach g k s ≡ At t' → weight g w (k + j) s ≡ weight g w k s + weight g w j t') → (m : Move T P) (t' : T) → after k m ≡ At t' → weigh_after w t (k + j) m ≡ weigh_after w t k m + weight g w j t'
+  weigh_on : (w : T → ℕ) (t : T) (k j : ℕ) → ((s t' : T) → reach g k s ≡ At t' → weight g w (k + j) s ≡ weight g w k s + weight g w j t')
+      → (m : Move T P) (t' : T) → after k m ≡ At t' → weigh_after w t (k + j) m ≡ weigh_after w t k m + weight g w j t'
   weigh_on w t k j ih (Goes s) t' e = (let h = ih s t' e in omega (arith, h))
   weigh_on w t k j ih (Ends o) t' e = cc
   weigh_on w t k j ih Lost t' e = cc
@@ -43,7 +44,8 @@ module _ {S O T P : Type 0} (f : S → Move S O) (g : T → Move T P) (w : S →
   abbrev Runs : ℕ → S → S → T → ℕ → Type 0
   Runs n s s' t saved = (k : ℕ) × (t' : T) × (saved' : ℕ) × (reach g k t ≡ At t') × (k + saved' ≤ n * cost + saved) × (weight f w n s ≤ weight g v k t) × R s' t' saved'
 
-  runs_on : (n : ℕ) (s s' : S) (t : T) (saved : ℕ) → R s t saved → ((s1 : S) (t1 : T) (saved1 : ℕ) → R s1 t1 saved1 → reach f n s1 ≡ At s' → Runs n s1 s' t1 saved1) → (m : Move S O) → f s ≡ m → reach f (suc n) s ≡ At s' → Runs (suc n) s s' t saved
+  runs_on : (n : ℕ) (s s' : S) (t : T) (saved : ℕ) → R s t saved → ((s1 : S) (t1 : T) (saved1 : ℕ) → R s1 t1 saved1 → reach f n s1 ≡ At s' → Runs n s1 s' t1 saved1)
+      → (m : Move S O) → f s ≡ m → reach f (suc n) s ≡ At s' → Runs (suc n) s s' t saved
   runs_on n s s' t saved r ih (Ends o) eq e = (let d : ◌≡◌ {A = Reach S O} (Over o) (At s') = sym (ap (after f n) eq) ∙ e in cc)
   runs_on n s s' t saved r ih Lost eq e = (let d : ◌≡◌ {A = Reach S O} Dead (At s') = sym (ap (after f n) eq) ∙ e in cc)
   runs_on n s s' t saved r ih (Goes s1) eq e =
@@ -61,7 +63,8 @@ module _ {S O T P : Type 0} (f : S → Move S O) (g : T → Move T P) (w : S →
   abbrev End : ℕ → O → T → ℕ → Type 0
   End n o t saved = (k : ℕ) × (p : P) × (reach g k t ≡ Over p) × (k ≤ n * cost + saved) × Agrees o p
 
-  ends_on : (n : ℕ) (s : S) (o : O) (t : T) (saved : ℕ) → R s t saved → ((s1 : S) (t1 : T) (saved1 : ℕ) → R s1 t1 saved1 → reach f n s1 ≡ Over o → End n o t1 saved1) → (m : Move S O) → f s ≡ m → reach f (suc n) s ≡ Over o → End (suc n) o t saved
+  ends_on : (n : ℕ) (s : S) (o : O) (t : T) (saved : ℕ) → R s t saved → ((s1 : S) (t1 : T) (saved1 : ℕ) → R s1 t1 saved1 → reach f n s1 ≡ Over o → End n o t1 saved1)
+      → (m : Move S O) → f s ≡ m → reach f (suc n) s ≡ Over o → End (suc n) o t saved
   ends_on n s o t saved r ih Lost eq e = (let d : ◌≡◌ {A = Reach S O} Dead (Over o) = sym (ap (after f n) eq) ∙ e in cc)
   ends_on n s o t saved r ih (Ends q) eq e =
       let same : q ≡ o = (let d : ◌≡◌ {A = Reach S O} (Over q) (Over o) = sym (ap (after f n) eq) ∙ e in cc) in
