@@ -12,7 +12,7 @@ use Rattle.cf_object.proofs.EndedStays.{ended_stays_lem}
 use Rattle.wb_syntax.specs.Runs.{RunEnd, Returned, StackFull, HasEnded, mach}
 use Rattle.wb_syntax.proofs.Longer.{mach_longer}
 use Rattle.cf_driver.specs.Sums.{Sum, Number, Plus}
-use Rattle.cf_driver.specs.Agreement.{Agrees, returned, IsOver, AreArguments, EndsAlike}
+use Rattle.cf_agreement.specs.Agreement.{Agrees, returned, IsOver, AreArguments, EndsAlike}
 use Rattle.cf_driver.specs.Lowering.{program_of, module_of, AllFit}
 use Rattle.cf_driver.proofs.SourceRuns.{value, program_ends}
 use Rattle.cf_driver.proofs.SourceRuns as source

@@ -6,7 +6,7 @@ use Rattle.cf_tree.specs.Tree.{Program}
 use Rattle.wb_syntax.specs.declared.syntax.Module.{Module}
 use Rattle.wb_syntax.specs.Binary.{Encodes}
 use Rattle.wb_syntax.specs.Typing.{Valid}
-use Rattle.cf_driver.specs.Agreement.{EndsAlike}
+use Rattle.cf_agreement.specs.Agreement.{EndsAlike}
 use Rattle.cf_driver.specs.Lowering.{program_of}
 use Rattle.cf_driver.specs.Sources.{ReadsAs, IsUnread}
 use Rattle.cf_driver.specs.Sums.{Sum, IsSum}

@@ -1,4 +1,3 @@
-pub mod Agreement
 pub mod Sums
 pub mod Lowering
 pub mod Sources

@@ -6,7 +6,7 @@ use Rattle.cf_object.specs.Laws.{EndedStays}
 
 module _ (region : ℕ) where
   -- what a run comes to after this move
-  abbrev after : (State → ℕ → After region) → State → ℕ → Next → After region
+  abbrev pub after : (State → ℕ → After region) → State → ℕ → Next → After region
   after go s peak m = elim m [ Goes t ↦ go t (max peak t.calls_open) | Ends o ↦ Ended o s.calls peak | Lost ↦ Stuck ]
 
   move_stays : (go far : State → ℕ → After region) (e : After region) → ((t : State) (p : ℕ) → go t p ≡ e → far t p ≡ e) → (s : State) (peak : ℕ) (m : Next) → after go s peak m ≡ e → after far s peak m ≡ e

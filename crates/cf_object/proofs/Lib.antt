@@ -1,2 +1,3 @@
 pub mod EndedStays
+pub mod Moved
 mod Examples

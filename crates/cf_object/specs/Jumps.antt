@@ -81,7 +81,7 @@ abbrev mutual
 
   pub uses_branches : Branches → List Use
   uses_branches NoBranches = []
-  uses_branches (AndBranch m u bs) = merge (drop m (uses u)) (uses_branches bs)
+  uses_branches (AndBranch d tag m u bs) = merge (drop m (uses u)) (uses_branches bs)
 
 -- the variable of a computation-typed `let` is a join: it does not stand in its definition
 abbrev pub is_join : Obj → Bool
@@ -122,7 +122,7 @@ group_known joins zero i ks = ks
 group_known joins (suc n) zero ks = record { joins = joins; own = true } ∷ group_known joins n n ks
 group_known joins (suc n) (suc i) ks = record { joins = joins; own = false } ∷ group_known joins n i ks
 
--- the term of a run: types are left out, and each occurrence carries whether it is a jump
+-- the term of a run: types are left out, data types too, and each occurrence carries whether it is a jump
 abbrev mutual
   pub marked : List Known → Obj → Run
   marked ks (Var x) = Bound (known_at ks x) x
@@ -150,4 +150,4 @@ abbrev mutual
 
   pub marked_branches : List Known → Branches → RunBranches
   marked_branches ks NoBranches = NoRunBranches
-  marked_branches ks (AndBranch m u bs) = AndRunBranch m (marked (plain ks m) u) (marked_branches ks bs)
+  marked_branches ks (AndBranch d tag m u bs) = AndRunBranch m (marked (plain ks m) u) (marked_branches ks bs)

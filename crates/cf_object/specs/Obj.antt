@@ -50,10 +50,10 @@ mutual
     NoDefs : Defs
     AndDef : ObjType → Obj → Defs → Defs
 
-  -- the branches of a Case, each with the number of names that it binds; the last name has index 0
+  -- the branches of a Case, each with its data type, its constructor, and the number of names that it binds; the last name has index 0
   pub data Branches : Type 0 where
     NoBranches : Branches
-    AndBranch : (binds : ℕ) → Obj → Branches → Branches
+    AndBranch : (d tag binds : ℕ) → Obj → Branches → Branches
 
 -- whether a term of this type is a value, evaluated once
 abbrev pub is_value_type : ObjType → Bool
@@ -108,4 +108,4 @@ abbrev mutual
 
   pub branches_nodes : Branches → ℕ
   branches_nodes NoBranches = 0
-  branches_nodes (AndBranch n u bs) = nodes u + branches_nodes bs
+  branches_nodes (AndBranch d tag n u bs) = nodes u + branches_nodes bs

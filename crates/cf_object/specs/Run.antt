@@ -35,6 +35,7 @@ mutual
   pub data Group : Type 0 where
     Defined : (again : Bool) → Runs → Group
 
+  -- one branch for each constructor, in the order of their numbers, with the number of names that it binds
   pub data RunBranches : Type 0 where
     NoRunBranches : RunBranches
     AndRunBranch : (binds : ℕ) → Run → RunBranches → RunBranches

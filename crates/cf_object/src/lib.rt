@@ -4,4 +4,4 @@
 mod laws;
 
 pub use cf_base::Outcome;
-pub use laws::ended_stays;
+pub use laws::{ended_stays, runs_reach};
