@@ -1,10 +1,12 @@
 -- What holds of evaluation and of normal forms.
-use Rattle.std.specs.Prelude.{◌≡◌, ◌≤◌, ℕ, Option}
+use Rattle.std.specs.Prelude.{◌≡◌, ◌≤◌, ◌-◌, ℕ, Option}
 use Rattle.cf_term.specs.Core.{Tm}
 use Rattle.cf_term.specs.Same.{bare}
 use Rattle.cf_term.specs.Substitution.{rename}
 use Rattle.cf_term.specs.Evaluation.{Out, Done, Spent, Deep, evaluate_by, evaluate, IsValue}
-use Rattle.cf_term.specs.NormalForms.{read_back, normal_form}
+use Rattle.cf_term.specs.NormalForms.{read_back, normal_form, then_read_back}
+use Rattle.cf_term.specs.Measures.{nodes}
+use Rattle.cf_reduction.specs.Normal.{IsNormal, IsUnmarked}
 use Rattle.cf_term.specs.Reductions.{Reaches}
 
 -- what follows a step is evaluation itself, with the steps and the nest that are left
@@ -40,3 +42,19 @@ ReadingReaches = (v : Tm) (k d : ℕ) (t : Tm) (l : ℕ) → read_back k d v ≡
 -- a normal form is reached by reductions
 abbrev pub NormalFormReaches : Type 0
 NormalFormReaches = (t : Tm) (k d : ℕ) (u : Tm) (l : ℕ) → normal_form k d t ≡ Done u l → (known : ℕ → Option Tm) → Reaches known (bare t) u
+
+-- a normal term evaluates to itself in no step
+abbrev pub NormalTermsAreValues : Type 0
+NormalTermsAreValues = (t : Tm) → IsNormal t → IsValue t
+
+-- a term without marks is what it is without its marks
+abbrev pub UnmarkedTermsAreBare : Type 0
+UnmarkedTermsAreBare = (t : Tm) → IsUnmarked t → bare t ≡ t
+
+-- a normal term without marks is its own normal form, by a step for each node
+abbrev pub NormalTermsStay : Type 0
+NormalTermsStay = (t : Tm) (k d : ℕ) → IsNormal t → IsUnmarked t → nodes t ≤ k → normal_form k d t ≡ Done t (k - nodes t)
+
+-- what is read back of a value is a normal term, and so a normal form is one
+abbrev pub NormalFormsAreNormal : Type 0
+NormalFormsAreNormal = (t : Tm) (k d : ℕ) (u : Tm) (l : ℕ) → then_read_back d (evaluate k d t) ≡ Done u l → IsNormal u

@@ -1,2 +1,3 @@
 -- What the laws say.
+pub mod Normal
 pub mod Laws

@@ -4,7 +4,7 @@
 //! is reached by them.
 #![tactic(auto)]
 
-ghost use Rattle.cf_reduction.specs.Laws.{EvaluationGoesOn, EvaluationReaches, EvaluationRenames, EvaluationSpends, NormalFormReaches, ReadingReaches, ValuesStay};
+ghost use Rattle.cf_reduction.specs.Laws.{EvaluationGoesOn, EvaluationReaches, EvaluationRenames, EvaluationSpends, NormalFormReaches, NormalFormsAreNormal, NormalTermsAreValues, NormalTermsStay, ReadingReaches, UnmarkedTermsAreBare, ValuesStay};
 
 /// What follows a step is evaluation itself, with the steps and the nest that are left.
 pub fn evaluation_goes_on()
@@ -42,4 +42,24 @@ pub fn reading_reaches()
 /// A normal form is reached from its term by reductions, marks aside.
 pub fn normal_form_reaches()
     ensures { NormalFormReaches }
+{}
+
+/// A normal term evaluates to itself, in no step.
+pub fn normal_terms_are_values()
+    ensures { NormalTermsAreValues }
+{}
+
+/// Taking the marks of a term without marks away changes nothing.
+pub fn unmarked_terms_are_bare()
+    ensures { UnmarkedTermsAreBare }
+{}
+
+/// A normal term without marks is its own normal form, by a step for each node.
+pub fn normal_terms_stay()
+    ensures { NormalTermsStay }
+{}
+
+/// What is read back of a value is a normal term, and so is a normal form.
+pub fn normal_forms_are_normal()
+    ensures { NormalFormsAreNormal }
 {}
