@@ -2,7 +2,6 @@ pub mod Numbered
 pub mod Contracted
 pub mod Formed
 pub mod Walked
-pub mod Below
 pub mod Marked
 pub mod Applied
 pub mod Binding

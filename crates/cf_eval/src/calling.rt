@@ -1,10 +1,11 @@
 // The calls: an evaluation, and an evaluation that is read back.
 ghost use Rattle.std.specs.Prelude.{IfOk};
+ghost use Rattle.cf_term.specs.Closed.{IsClosed};
 ghost use Rattle.cf_term.specs.Evaluation.{Done, evaluate};
 ghost use Rattle.cf_term.specs.NormalForms.{then_read_back};
 ghost use Rattle.cf_term.specs.Same.{bare};
 ghost use Rattle.cf_term.specs.Substitution.{substitute};
-ghost use Rattle.cf_value.specs.Contexts.{AreValuesIn, IsClosed, IsValueIn};
+ghost use Rattle.cf_value.specs.Contexts.{AreValuesIn, IsValueIn};
 ghost use Rattle.cf_value.specs.Stands.{env_at, in_context, term_at};
 ghost use Rattle.cf_value.specs.Val.{values_in};
 ghost use Rattle.cf_eval.specs.Answers.{Answers};
