@@ -9,3 +9,4 @@ pub mod Ranks
 pub mod Looked
 pub mod Placed
 pub mod Writes
+pub mod Outcomes

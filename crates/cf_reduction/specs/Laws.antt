@@ -1,6 +1,7 @@
 -- What holds of evaluation and of normal forms.
-use Rattle.std.specs.Prelude.{◌≡◌, ◌≤◌, ◌-◌, ℕ, Option}
+use Rattle.std.specs.Prelude.{◌≡◌, ◌≤◌, ◌-◌, ℕ, Option, Some}
 use Rattle.cf_term.specs.Core.{Tm}
+use Rattle.cf_term.specs.Closed.{IsClosed}
 use Rattle.cf_term.specs.Same.{bare}
 use Rattle.cf_term.specs.Substitution.{rename}
 use Rattle.cf_term.specs.Evaluation.{Out, Done, Spent, Deep, evaluate_by, evaluate, IsValue}
@@ -58,3 +59,15 @@ NormalTermsStay = (t : Tm) (k d : ℕ) → IsNormal t → IsUnmarked t → nodes
 -- what is read back of a value is a normal term, and so a normal form is one
 abbrev pub NormalFormsAreNormal : Type 0
 NormalFormsAreNormal = (t : Tm) (k d : ℕ) (u : Tm) (l : ℕ) → then_read_back d (evaluate k d t) ≡ Done u l → IsNormal u
+
+-- what is read back of the value of a term is reached from the term by reductions
+abbrev pub ReadingOfValueReaches : Type 0
+ReadingOfValueReaches = (t : Tm) (k d : ℕ) (u : Tm) (l : ℕ) → then_read_back d (evaluate k d t) ≡ Done u l → (known : ℕ → Option Tm) → Reaches known t u
+
+-- reductions bring no variable that was not there, where the values of the defined variables have none
+abbrev pub ReductionsStayClosed : Type 0
+ReductionsStayClosed = (known : ℕ → Option Tm) (n : ℕ) (t u : Tm) → ((i : ℕ) (v : Tm) → known i ≡ Some v → IsClosed n v) → Reaches known t u → IsClosed n t → IsClosed n u
+
+-- a normal form has no variable that its term has not
+abbrev pub NormalFormsStayClosed : Type 0
+NormalFormsStayClosed = (t : Tm) (n k d : ℕ) (u : Tm) (l : ℕ) → normal_form k d t ≡ Done u l → IsClosed n t → IsClosed n u

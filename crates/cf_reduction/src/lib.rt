@@ -4,7 +4,7 @@
 //! is reached by them.
 #![tactic(auto)]
 
-ghost use Rattle.cf_reduction.specs.Laws.{EvaluationGoesOn, EvaluationReaches, EvaluationRenames, EvaluationSpends, NormalFormReaches, NormalFormsAreNormal, NormalTermsAreValues, NormalTermsStay, ReadingReaches, UnmarkedTermsAreBare, ValuesStay};
+ghost use Rattle.cf_reduction.specs.Laws.{EvaluationGoesOn, EvaluationReaches, EvaluationRenames, EvaluationSpends, NormalFormReaches, NormalFormsAreNormal, NormalFormsStayClosed, NormalTermsAreValues, NormalTermsStay, ReadingOfValueReaches, ReadingReaches, ReductionsStayClosed, UnmarkedTermsAreBare, ValuesStay};
 
 /// What follows a step is evaluation itself, with the steps and the nest that are left.
 pub fn evaluation_goes_on()
@@ -63,3 +63,25 @@ pub fn normal_terms_stay()
 pub fn normal_forms_are_normal()
     ensures { NormalFormsAreNormal }
 {}
+
+/// What is read back of the value of a term is reached from the term by reductions, whatever variables are defined.
+pub fn reading_of_value_reaches()
+    ensures { ReadingOfValueReaches }
+{}
+
+/// Reductions bring no variable that was not there.
+pub fn reductions_stay_closed()
+    ensures { ReductionsStayClosed }
+{
+    cf_term::closed_among_more();
+    cf_term::renamed_term_is_closed();
+    cf_term::substitution_is_closed();
+}
+
+/// A normal form has no variable that its term has not.
+pub fn normal_forms_stay_closed()
+    ensures { NormalFormsStayClosed }
+{
+    cf_term::bare_term_is_closed();
+    reductions_stay_closed();
+}
