@@ -1,14 +1,14 @@
 -- What holds of evaluation and of normal forms.
-use Rattle.std.specs.Prelude.{◌≡◌, ◌≤◌, ◌-◌, ℕ, Option, Some}
+use Rattle.std.specs.Prelude.{◌≡◌, ◌≤◌, ◌-◌, ℕ, Option, Some, IsTrue}
 use Rattle.cf_term.specs.Core.{Tm}
 use Rattle.cf_term.specs.Closed.{IsClosed}
-use Rattle.cf_term.specs.Same.{bare}
+use Rattle.cf_term.specs.Same.{bare, same}
 use Rattle.cf_term.specs.Substitution.{rename}
 use Rattle.cf_term.specs.Evaluation.{Out, Done, Spent, Deep, evaluate_by, evaluate, IsValue}
 use Rattle.cf_term.specs.NormalForms.{read_back, normal_form, then_read_back}
 use Rattle.cf_term.specs.Measures.{nodes}
 use Rattle.cf_reduction.specs.Normal.{IsNormal, IsUnmarked}
-use Rattle.cf_term.specs.Reductions.{Reaches}
+use Rattle.cf_term.specs.Reductions.{Reaches, Converts}
 
 -- what follows a step is evaluation itself, with the steps and the nest that are left
 abbrev pub EvaluationGoesOn : Type 0
@@ -71,3 +71,16 @@ ReductionsStayClosed = (known : ℕ → Option Tm) (n : ℕ) (t u : Tm) → ((i 
 -- a normal form has no variable that its term has not
 abbrev pub NormalFormsStayClosed : Type 0
 NormalFormsStayClosed = (t : Tm) (n k d : ℕ) (u : Tm) (l : ℕ) → normal_form k d t ≡ Done u l → IsClosed n t → IsClosed n u
+
+-- conversion is an equivalence
+abbrev pub ConversionIsEquivalence : Type 0
+ConversionIsEquivalence = (known : ℕ → Option Tm)
+    → ((t : Tm) → Converts known t t) × ((t u : Tm) → Converts known t u → Converts known u t) × ((t u v : Tm) → Converts known t u → Converts known u v → Converts known t v)
+
+-- what is reached by reductions converts
+abbrev pub ReachedTermsConvert : Type 0
+ReachedTermsConvert = (known : ℕ → Option Tm) (t u : Tm) → Reaches known t u → Converts known t u
+
+-- terms whose normal forms are the same convert
+abbrev pub SameNormalFormsConvert : Type 0
+SameNormalFormsConvert = (t u : Tm) (k d m e : ℕ) (v w : Tm) (l j : ℕ) → normal_form k d t ≡ Done v l → normal_form m e u ≡ Done w j → IsTrue (same v w) → (known : ℕ → Option Tm) → Converts known t u

@@ -4,7 +4,7 @@
 //! is reached by them.
 #![tactic(auto)]
 
-ghost use Rattle.cf_reduction.specs.Laws.{EvaluationGoesOn, EvaluationReaches, EvaluationRenames, EvaluationSpends, NormalFormReaches, NormalFormsAreNormal, NormalFormsStayClosed, NormalTermsAreValues, NormalTermsStay, ReadingOfValueReaches, ReadingReaches, ReductionsStayClosed, UnmarkedTermsAreBare, ValuesStay};
+ghost use Rattle.cf_reduction.specs.Laws.{ConversionIsEquivalence, EvaluationGoesOn, EvaluationReaches, EvaluationRenames, EvaluationSpends, NormalFormReaches, NormalFormsAreNormal, NormalFormsStayClosed, NormalTermsAreValues, NormalTermsStay, ReachedTermsConvert, ReadingOfValueReaches, ReadingReaches, ReductionsStayClosed, SameNormalFormsConvert, UnmarkedTermsAreBare, ValuesStay};
 
 /// What follows a step is evaluation itself, with the steps and the nest that are left.
 pub fn evaluation_goes_on()
@@ -84,4 +84,21 @@ pub fn normal_forms_stay_closed()
 {
     cf_term::bare_term_is_closed();
     reductions_stay_closed();
+}
+
+/// Conversion is an equivalence.
+pub fn conversion_is_equivalence()
+    ensures { ConversionIsEquivalence }
+{}
+
+/// A term converts to what reductions make of it.
+pub fn reached_terms_convert()
+    ensures { ReachedTermsConvert }
+{}
+
+/// Two terms whose normal forms are the same, marks and `implicit` flags aside, convert.
+pub fn same_normal_forms_convert()
+    ensures { SameNormalFormsConvert }
+{
+    cf_term::same_decides();
 }
