@@ -1,5 +1,5 @@
 -- What holds of evaluation and of normal forms.
-use Rattle.std.specs.Prelude.{◌≡◌, ◌≤◌, ◌-◌, ℕ, Option, Some, IsTrue}
+use Rattle.std.specs.Prelude.{◌≡◌, ◌≤◌, ◌-◌, ◌↔◌, ℕ, Option, Some, None, IsTrue}
 use Rattle.cf_term.specs.Core.{Tm}
 use Rattle.cf_term.specs.Closed.{IsClosed}
 use Rattle.cf_term.specs.Same.{bare, same}
@@ -8,7 +8,7 @@ use Rattle.cf_term.specs.Evaluation.{Out, Done, Spent, Deep, evaluate_by, evalua
 use Rattle.cf_term.specs.NormalForms.{read_back, normal_form, then_read_back}
 use Rattle.cf_term.specs.Measures.{nodes}
 use Rattle.cf_reduction.specs.Normal.{IsNormal, IsUnmarked}
-use Rattle.cf_term.specs.Reductions.{Reaches, Converts}
+use Rattle.cf_term.specs.Reductions.{Reduces, Reaches, Converts}
 
 -- what follows a step is evaluation itself, with the steps and the nest that are left
 abbrev pub EvaluationGoesOn : Type 0
@@ -43,6 +43,10 @@ ReadingReaches = (v : Tm) (k d : ℕ) (t : Tm) (l : ℕ) → read_back k d v ≡
 -- a normal form is reached by reductions
 abbrev pub NormalFormReaches : Type 0
 NormalFormReaches = (t : Tm) (k d : ℕ) (u : Tm) (l : ℕ) → normal_form k d t ≡ Done u l → (known : ℕ → Option Tm) → Reaches known (bare t) u
+
+-- a term is normal exactly where nothing in it reduces, no variable being defined
+abbrev pub NormalTermsDoNotReduce : Type 0
+NormalTermsDoNotReduce = (known : ℕ → Option Tm) → ((i : ℕ) → known i ≡ None) → (t : Tm) → IsNormal t ↔ ((u : Tm) → Reduces known t u → ⊥)
 
 -- a normal term evaluates to itself in no step
 abbrev pub NormalTermsAreValues : Type 0

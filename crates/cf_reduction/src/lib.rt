@@ -4,7 +4,7 @@
 //! is reached by them.
 #![tactic(auto)]
 
-ghost use Rattle.cf_reduction.specs.Laws.{ConversionIsEquivalence, EvaluationGoesOn, EvaluationReaches, EvaluationRenames, EvaluationSpends, NormalFormReaches, NormalFormsAreNormal, NormalFormsStayClosed, NormalTermsAreValues, NormalTermsStay, ReachedTermsConvert, ReadingOfValueReaches, ReadingReaches, ReductionsStayClosed, SameNormalFormsConvert, UnmarkedTermsAreBare, ValuesStay};
+ghost use Rattle.cf_reduction.specs.Laws.{ConversionIsEquivalence, EvaluationGoesOn, EvaluationReaches, EvaluationRenames, EvaluationSpends, NormalFormReaches, NormalFormsAreNormal, NormalFormsStayClosed, NormalTermsAreValues, NormalTermsDoNotReduce, NormalTermsStay, ReachedTermsConvert, ReadingOfValueReaches, ReadingReaches, ReductionsStayClosed, SameNormalFormsConvert, UnmarkedTermsAreBare, ValuesStay};
 
 /// What follows a step is evaluation itself, with the steps and the nest that are left.
 pub fn evaluation_goes_on()
@@ -42,6 +42,11 @@ pub fn reading_reaches()
 /// A normal form is reached from its term by reductions, marks aside.
 pub fn normal_form_reaches()
     ensures { NormalFormReaches }
+{}
+
+/// A term is normal exactly where nothing in it reduces.
+pub fn normal_terms_do_not_reduce()
+    ensures { NormalTermsDoNotReduce }
 {}
 
 /// A normal term evaluates to itself, in no step.
