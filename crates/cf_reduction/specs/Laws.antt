@@ -1,5 +1,5 @@
 -- What holds of evaluation and of normal forms.
-use Rattle.std.specs.Prelude.{◌≡◌, ◌≤◌, ◌-◌, ◌↔◌, ℕ, Option, Some, None, IsTrue}
+use Rattle.std.specs.Prelude.{◌≡◌, ◌≤◌, ◌-◌, ◌↔◌, ℕ, Bool, Option, Some, None, IsTrue}
 use Rattle.cf_term.specs.Core.{Tm}
 use Rattle.cf_term.specs.Closed.{IsClosed}
 use Rattle.cf_term.specs.Same.{bare, same}
@@ -7,6 +7,7 @@ use Rattle.cf_term.specs.Substitution.{rename}
 use Rattle.cf_term.specs.Evaluation.{Out, Done, Spent, Deep, evaluate_by, evaluate, IsValue}
 use Rattle.cf_term.specs.NormalForms.{read_back, normal_form, then_read_back}
 use Rattle.cf_term.specs.Measures.{nodes}
+use Rattle.cf_reduction.specs.Holes.{HolesAre}
 use Rattle.cf_reduction.specs.Normal.{IsNormal, IsUnmarked}
 use Rattle.cf_term.specs.Reductions.{Reduces, Reaches, Converts}
 
@@ -75,6 +76,14 @@ ReductionsStayClosed = (known : ℕ → Option Tm) (n : ℕ) (t u : Tm) → ((i 
 -- a normal form has no variable that its term has not
 abbrev pub NormalFormsStayClosed : Type 0
 NormalFormsStayClosed = (t : Tm) (n k d : ℕ) (u : Tm) (l : ℕ) → normal_form k d t ≡ Done u l → IsClosed n t → IsClosed n u
+
+-- reductions bring no hole that was not there, where the values of the defined variables have none
+abbrev pub ReductionsKeepHoles : Type 0
+ReductionsKeepHoles = (these : ℕ → Bool) (known : ℕ → Option Tm) (t u : Tm) → ((i : ℕ) (v : Tm) → known i ≡ Some v → HolesAre these v) → Reaches known t u → HolesAre these t → HolesAre these u
+
+-- a normal form has no hole that its term has not
+abbrev pub NormalFormsKeepHoles : Type 0
+NormalFormsKeepHoles = (these : ℕ → Bool) (t : Tm) (k d : ℕ) (u : Tm) (l : ℕ) → normal_form k d t ≡ Done u l → HolesAre these t → HolesAre these u
 
 -- conversion is an equivalence
 abbrev pub ConversionIsEquivalence : Type 0

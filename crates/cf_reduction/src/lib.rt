@@ -4,7 +4,8 @@
 //! is reached by them.
 #![tactic(auto)]
 
-ghost use Rattle.cf_reduction.specs.Laws.{ConversionIsEquivalence, EvaluationGoesOn, EvaluationReaches, EvaluationRenames, EvaluationSpends, NormalFormReaches, NormalFormsAreNormal, NormalFormsStayClosed, NormalTermsAreValues, NormalTermsDoNotReduce, NormalTermsStay, ReachedTermsConvert, ReadingOfValueReaches, ReadingReaches, ReductionsStayClosed, SameNormalFormsConvert, UnmarkedTermsAreBare, ValuesStay};
+ghost use Rattle.cf_reduction.specs.Laws.{ConversionIsEquivalence, EvaluationGoesOn, EvaluationReaches, EvaluationRenames, EvaluationSpends, NormalFormReaches, NormalFormsAreNormal, NormalFormsKeepHoles, NormalFormsStayClosed, NormalTermsAreValues};
+ghost use Rattle.cf_reduction.specs.Laws.{NormalTermsDoNotReduce, NormalTermsStay, ReachedTermsConvert, ReadingOfValueReaches, ReadingReaches, ReductionsKeepHoles, ReductionsStayClosed, SameNormalFormsConvert, UnmarkedTermsAreBare, ValuesStay};
 
 /// What follows a step is evaluation itself, with the steps and the nest that are left.
 pub fn evaluation_goes_on()
@@ -90,6 +91,16 @@ pub fn normal_forms_stay_closed()
     cf_term::bare_term_is_closed();
     reductions_stay_closed();
 }
+
+/// Reductions bring no hole that was not there.
+pub fn reductions_keep_holes()
+    ensures { ReductionsKeepHoles }
+{}
+
+/// A normal form has no hole that its term has not.
+pub fn normal_forms_keep_holes()
+    ensures { NormalFormsKeepHoles }
+{}
 
 /// Conversion is an equivalence.
 pub fn conversion_is_equivalence()
