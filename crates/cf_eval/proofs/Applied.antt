@@ -1,9 +1,9 @@
 -- Applications and recursors, step by step, and how a refusal goes out of them.
-use Rattle.std.proofs.Common.{◌≡◌, ℕ, zero, suc, ◌-◌, Bool, true, false, Option, Some, None, Result, Ok, Err, refl, ap, sym, ◌∙◌, arith}
+use Rattle.std.proofs.Common.{◌≡◌, ℕ, zero, suc, ◌-◌, false, Result, Ok, Err, refl, ap, sym, ◌∙◌, arith}
 use mathlib.Core.Path.{subst, ap₂, fun_ext}
 use Rattle.std.specs.Result.{IsErr, IsErrAnd}
-use Rattle.cf_term.specs.Core.{Tm, var, node, Tms, nil, cons, Head, parts, AppH, NatRecH, ListRecH}
-use Rattle.cf_term.specs.Evaluation.{Out, Done, Spent, Deep, Outs, AllDone, AllSpent, AllDeep, evaluate, evaluate_by, evaluate_all_by, finish, step, before, and_then, contract, IsValue}
+use Rattle.cf_term.specs.Core.{Tm, node, nil, cons, Head, parts, AppH, NatRecH, ListRecH}
+use Rattle.cf_term.specs.Evaluation.{Out, Done, Spent, Deep, Outs, AllDone, evaluate, evaluate_all_by, finish, step, before, and_then, IsValue}
 use Rattle.cf_term.specs.Forms.{App, NatRec, ListRec}
 use Rattle.cf_term.specs.Numbered.{places, terms}
 use Rattle.cf_term.specs.Same.{bare, bare_all}

@@ -1,12 +1,11 @@
 -- Environments under object binders.
-use Rattle.std.proofs.Common.{◌≡◌, ℕ, zero, suc, ◌+◌, ◌≤◌, max, refl, ap, sym, ◌∙◌, arith}
-use mathlib.Core.Path.{subst, fun_ext, ap₂}
-use Rattle.cf_term.specs.Core.{Tm}
+use Rattle.std.proofs.Common.{◌≡◌, ℕ, zero, suc, ◌+◌, refl, ap, sym, ◌∙◌, arith}
+use mathlib.Core.Path.{fun_ext, ap₂}
 use Rattle.cf_term.specs.Substitution.{ups}
 use Rattle.cf_value.specs.Contexts.{AreValuesIn, with_variables}
 use Rattle.cf_value.specs.Laws.{EnvironmentUnderBinders}
 use Rattle.cf_value.specs.Stands.{env_at, with_levels}
-use Rattle.cf_value.specs.Val.{Val, Vals, empty, push, level, values_in}
+use Rattle.cf_value.specs.Val.{Vals, values_in}
 use Rattle.cf_eval.specs.Bulk.{bulks}
 
 pub values_with : (n l : ℕ) (e : Vals) → values_in (with_variables n l e) ≡ values_in e + n

@@ -1,14 +1,14 @@
 -- The steps on values are those of the definition.
-use Rattle.std.proofs.Common.{◌≡◌, ℕ, zero, suc, ◌+◌, ◌≤◌, max, List, [], ◌∷◌, Bool, true, false, refl, sym, arith, Option, Some, None}
+use Rattle.std.proofs.Common.{◌≡◌, ℕ, zero, suc, ◌≤◌, List, [], ◌∷◌, Bool, true, false, refl, sym, arith, Option, Some, None}
 use mathlib.Core.Path.{subst}
-use Rattle.cf_term.specs.Core.{Tm, Tms, Head, Part, parts, first_part, rest_parts, AppH, LamH, LetH, PairH, FstH, SndH, UnitH, UnitRecH, TrueH, FalseH, BoolRecH, ZeroH, SucH, NatRecH, NilH, ConsH, ListRecH, QuoteH, SpliceH}
+use Rattle.cf_term.specs.Core.{Tm, Head, Part, parts, first_part, rest_parts, AppH, LamH, LetH, PairH, FstH, SndH, UnitH, UnitRecH, TrueH, FalseH, BoolRecH, ZeroH, SucH, NatRecH, NilH, ConsH, ListRecH, QuoteH, SpliceH}
 use Rattle.cf_term.specs.Evaluation.{contract}
 use Rattle.cf_value.specs.Heads.{Fits}
 use Rattle.cf_value.specs.Val.{Val, VParts, Vals, level, form, none, ready, frozen, parts_in}
-use Rattle.cf_value.specs.Stands.{term_at, terms_at}
-use Rattle.cf_value.specs.Contexts.{IsKnown, AreKnown, AreKnownParts}
-use Rattle.cf_eval.specs.Redexes.{Kept, Goal, opened, value, case_of, number_case, list_case, kept_part, ready_part, redex, goal_at, IsKnownGoal, opened_with, lambda_of, first_value, second_value, value_at, unit_step, bool_step, bool_of, nat_step, list_step, quoted_value}
-use Rattle.cf_eval.specs.Bulk.{bulk, part_bulk, goal_bulk}
+use Rattle.cf_value.specs.Stands.{terms_at}
+use Rattle.cf_value.specs.Contexts.{IsKnown, AreKnownParts}
+use Rattle.cf_eval.specs.Redexes.{Goal, case_of, kept_part, ready_part, redex, goal_at, IsKnownGoal, opened_with, lambda_of, first_value, second_value, value_at, unit_step, bool_step, bool_of, nat_step, list_step, quoted_value}
+use Rattle.cf_eval.specs.Bulk.{part_bulk, goal_bulk}
 
 -- ---- parts of the kinds that they should have
 

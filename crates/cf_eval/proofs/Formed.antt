@@ -1,12 +1,12 @@
 -- A form that takes no step is a value.
-use Rattle.std.proofs.Common.{◌≡◌, ℕ, zero, suc, ◌+◌, ◌≤◌, max, List, [], ◌∷◌, Bool, true, false, refl, sym, ap, ◌∙◌, arith, Option, Some, None}
+use Rattle.std.proofs.Common.{◌≡◌, ℕ, zero, suc, ◌≤◌, List, Bool, true, false, refl, sym, ap, ◌∙◌, arith, Option, Some, None}
 use mathlib.Core.Path.{subst, ap₂}
-use Rattle.cf_term.specs.Core.{Tm, var, node, Tms, nil, cons, Head, Part, parts, first_part, rest_parts, QuoteH, SpliceH}
-use Rattle.cf_term.specs.Evaluation.{Out, Done, Outs, AllDone, contract, formed, evaluate, evaluate_by, evaluate_all_by, finish, step, step_or, before, and_then, IsValue}
+use Rattle.cf_term.specs.Core.{var, node, Head, Part, parts, first_part, rest_parts, QuoteH, SpliceH}
+use Rattle.cf_term.specs.Evaluation.{Done, Outs, AllDone, contract, formed, evaluate, evaluate_by, evaluate_all_by, finish, step, step_or, before, and_then, IsValue}
 use Rattle.cf_value.specs.Heads.{Fits}
-use Rattle.cf_value.specs.Val.{Val, VParts, Vals, level, form, none, ready, frozen, parts_in}
+use Rattle.cf_value.specs.Val.{Val, VParts, level, form, none, ready, frozen, parts_in}
 use Rattle.cf_value.specs.Stands.{term_at, terms_at, with_levels}
-use Rattle.cf_value.specs.Contexts.{IsKnown, AreKnown, AreKnownParts, or_levels}
+use Rattle.cf_value.specs.Contexts.{IsKnown, AreKnownParts, or_levels}
 use Rattle.cf_reduction.specs.Laws.{EvaluationGoesOn}
 use Rattle.cf_eval.specs.Redexes.{Goal, goal_at, redex, unquoted, ready_part, spliced_value}
 use Rattle.cf_eval.specs.Bulk.{bulk, part_bulk}

@@ -2,7 +2,6 @@ pub mod Numbered
 pub mod Contracted
 pub mod Formed
 pub mod Walked
-pub mod Below
 pub mod Marked
 pub mod Applied
 pub mod Binding
@@ -10,3 +9,4 @@ pub mod Ranks
 pub mod Looked
 pub mod Placed
 pub mod Writes
+pub mod Outcomes

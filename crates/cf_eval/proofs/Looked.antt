@@ -1,5 +1,5 @@
 -- The value of a variable.
-use Rattle.std.proofs.Common.{◌≡◌, ℕ, zero, suc, ◌+◌, ◌≤◌, ◌<◌, max, Option, Some, None, refl, ap, sym, ◌∙◌, arith}
+use Rattle.std.proofs.Common.{◌≡◌, ℕ, zero, suc, ◌≤◌, ◌<◌, Option, Some, None, ap, sym, arith}
 use mathlib.Core.Path.{subst}
 use denote.Ref.{Bor}
 use Rattle.std.specs.declared.rc.Rc.{Rc}

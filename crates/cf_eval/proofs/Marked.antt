@@ -1,11 +1,10 @@
 -- Marks say nothing to evaluation.
-use Rattle.std.proofs.Common.{◌≡◌, ℕ, ◌+◌, ◌≤◌, Bool, true, false, Option, Some, None, refl, ap, sym, ◌∙◌, arith}
-use mathlib.Core.Path.{subst}
-use Rattle.cf_term.specs.Core.{Tm, var, node, Tms, Head, parts, depth, depth_all}
-use Rattle.cf_term.specs.Numbered.{places, terms, count, length_of, variable_of}
+use Rattle.std.proofs.Common.{◌≡◌, ℕ, ◌+◌, ◌≤◌, Bool, true, false, Some, None, refl, ap, sym, arith}
+use Rattle.cf_term.specs.Core.{Tm, var, node, Tms, depth, depth_all}
+use Rattle.cf_term.specs.Numbered.{places, terms, variable_of}
 use Rattle.cf_term.specs.Same.{bare, bare_all}
 use Rattle.cf_term.specs.View.{marked}
-use Rattle.cf_value.specs.Contexts.{IsClosed, AreClosed}
+use Rattle.cf_term.specs.Closed.{AreClosed, IsClosed}
 use Rattle.cf_value.specs.Heads.{head_of}
 use Rattle.cf_value.specs.declared.shapes.Shape.{Shape}
 use Rattle.cf_value.specs.declared.shapes.Shape.TheVariants as shape

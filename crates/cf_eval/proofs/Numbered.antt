@@ -1,6 +1,6 @@
 -- The parts of a value by number.
-use Rattle.std.proofs.Common.{◌≡◌, ℕ, zero, suc, ◌+◌, ◌≤◌, ◌<◌, List, [], ◌∷◌, get_or, length, refl, ap, sym, ◌∙◌, arith, Option, Some, None}
-use Rattle.cf_value.specs.Val.{Val, VParts, none, ready, frozen}
+use Rattle.std.proofs.Common.{◌≡◌, ℕ, zero, suc, ◌≤◌, ◌<◌, List, [], ◌∷◌, get_or, length, refl, ap, sym, ◌∙◌, arith, Option, None}
+use Rattle.cf_value.specs.Val.{Val, VParts}
 use Rattle.cf_value.specs.Seen.{seen_part, seen_parts}
 use Rattle.cf_value.specs.declared.values.ValuePart.{ValuePart}
 use Rattle.cf_value.specs.declared.values.ValuePart.TheVariants as part

@@ -1,8 +1,8 @@
 -- Levels in scopes, and the variables that forms bind.
-use Rattle.std.proofs.Common.{◌≡◌, ℕ, zero, suc, ◌+◌, ◌-◌, ◌*◌, ◌<◌, ◌≤◌, Bool, true, false, nat_eq, List, [], ◌∷◌, length, get_or, refl, ap, sym, ◌∙◌, arith}
+use Rattle.std.proofs.Common.{◌≡◌, ℕ, zero, suc, ◌+◌, ◌-◌, ◌*◌, ◌<◌, ◌≤◌, Bool, true, false, nat_eq, List, [], ◌∷◌, length, get_or, refl, ap, ◌∙◌, arith}
 use Rattle.std.proofs.lemmas.Bool.Decides.{nat_tests}
 use mathlib.Core.Path.{fun_ext}
-use Rattle.cf_term.specs.Core.{Part, Branch, group, branch_parts, here, under}
+use Rattle.cf_term.specs.Core.{group, branch_parts}
 use Rattle.cf_value.specs.Heads.{branches}
 use Rattle.cf_value.specs.Stands.{with_level, with_levels, in_context}
 use Rattle.cf_value.specs.declared.shapes.Arm.{Arm}

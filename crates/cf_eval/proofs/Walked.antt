@@ -1,22 +1,22 @@
 -- A walk over the parts of a form by number, which evaluates them in order.
 use Rattle.std.proofs.Common.{◌≡◌, ℕ, zero, suc, ◌+◌, ◌≤◌, ◌<◌, max, List, [], ◌∷◌, ◌++◌, Some, None, length, refl, ap, sym, ◌∙◌, arith, length-append, Bool, true, false}
 use mathlib.Core.Path.{ap₂, subst}
-use Rattle.cf_term.specs.Core.{Tm, var, node, Tms, nil, cons, Part, first_part, rest_parts, depth, depth_all}
+use Rattle.cf_term.specs.Core.{Tm, Tms, nil, cons, Part, first_part, rest_parts, depth, depth_all}
 use Rattle.cf_term.specs.Evaluation.{Out, Done, Outs, AllDone, AllSpent, AllDeep, evaluate, evaluate_by, evaluate_all_by, before, and_then}
 use Rattle.cf_term.specs.Numbered.{part_at, length_of, IsPart}
 use Rattle.cf_term.specs.Same.{bare, bare_all}
 use Rattle.cf_term.specs.Substitution.{ups, substitute, substitute_all}
 use Rattle.cf_term.specs.declared.parts.Part as seen
-use Rattle.cf_value.specs.Contexts.{below, IsClosed, AreClosed, AreKnownParts}
+use Rattle.cf_term.specs.Closed.{AreClosed, IsClosed}
+use Rattle.cf_value.specs.Contexts.{below, AreKnownParts}
 use Rattle.cf_value.specs.Seen.{seen_part, seen_parts}
 use Rattle.cf_value.specs.Stands.{env_at, term_at, terms_at, with_levels}
-use Rattle.cf_value.specs.Val.{Vals, VParts, none, ready, frozen, parts_in, values_in}
+use Rattle.cf_value.specs.Val.{Vals, none, parts_in, values_in}
 use Rattle.cf_value.specs.declared.values.ValuePart.{ValuePart}
 use Rattle.cf_value.specs.declared.values.ValuePart.TheVariants as part
 use Rattle.cf_eval.specs.Bulk.{bulks, part_bulk}
 use Rattle.cf_eval.specs.Goals.{part_out, part_term}
-use Rattle.std.specs.Prelude.{Result, Ok, Err}
-use Rattle.cf_term.specs.Evaluation.{Spent, Deep}
+use Rattle.std.specs.Prelude.{Err}
 use Rattle.cf_eval.specs.Answers.{Answers, AnswersAll}
 use Rattle.cf_reduction.specs.Laws.{EvaluationGoesOn}
 use Rattle.cf_eval.specs.declared.answers.EvalEnd.{EvalEnd}

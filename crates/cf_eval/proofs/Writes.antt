@@ -1,16 +1,16 @@
 -- Values that are written, part by part.
-use Rattle.std.proofs.Common.{◌≡◌, ℕ, zero, suc, ◌+◌, ◌-◌, ◌≤◌, ◌<◌, List, [], ◌∷◌, ◌++◌, length, get_or, drop, Bool, true, false, Result, Ok, Err, refl, ap, sym, ◌∙◌, arith, add-one, length-append}
+use Rattle.std.proofs.Common.{◌≡◌, ℕ, zero, suc, ◌+◌, ◌-◌, ◌≤◌, ◌<◌, List, [], ◌∷◌, ◌++◌, length, get_or, drop, Bool, true, false, Result, Err, refl, ap, sym, ◌∙◌, arith, add-one, length-append}
 use Rattle.std.proofs.Math.Seq.{drop-cons}
 use mathlib.Core.Path.{subst, ap₂}
 use Rattle.std.specs.declared.rc.Rc.{Rc}
-use Rattle.cf_term.specs.Core.{Tm, var, node, Tms, nil, cons, Head, Part, parts, first_part, rest_parts}
+use Rattle.cf_term.specs.Core.{Tm, var, node, Tms, nil, cons, Part, first_part, rest_parts}
 use Rattle.cf_term.specs.Evaluation.{Out, Done, Spent, Deep, Outs, AllDone, AllSpent, AllDeep, evaluate, before, and_then}
-use Rattle.cf_term.specs.NormalForms.{write_within, write_all_by, write_then, written}
+use Rattle.cf_term.specs.NormalForms.{write_within, write_all_by, write_then}
 use Rattle.cf_term.specs.View.{listed}
 use Rattle.cf_value.specs.Contexts.{AreKnownParts}
 use Rattle.cf_value.specs.Seen.{seen_part, seen_parts}
 use Rattle.cf_value.specs.Stands.{terms_at}
-use Rattle.cf_value.specs.Val.{VParts, none, ready, frozen, parts_in}
+use Rattle.cf_value.specs.Val.{VParts, none}
 use Rattle.cf_value.specs.declared.values.ValuePart.{ValuePart}
 use Rattle.cf_value.specs.declared.values.ValuePart.TheVariants as part
 use Rattle.cf_eval.specs.Answers.{Answers, AnswersAll}
@@ -20,7 +20,7 @@ use Rattle.cf_eval.specs.Writing.{is_kept, then_written, part_written, form_writ
 use Rattle.cf_eval.specs.declared.answers.EvalEnd.{EvalEnd}
 use Rattle.cf_eval.specs.declared.answers.EvalEnd.TheVariants as end
 use Rattle.cf_eval.specs.declared.answers.Written.{Written}
-use Rattle.cf_eval.proofs.Walked.{places_after, rest_next, befores, count_seen}
+use Rattle.cf_eval.proofs.Walked.{places_after, rest_next, befores}
 
 less_one : (k : ℕ) → suc k - 1 ≡ k
 less_one k = omega arith

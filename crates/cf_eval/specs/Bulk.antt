@@ -1,6 +1,6 @@
 -- How deep the frozen terms in a value are. Evaluation makes none deeper, which is why it ends.
 use Rattle.std.specs.Prelude.{ℕ, max, ◌+◌, ◌*◌}
-use Rattle.cf_term.specs.Core.{Tm, depth}
+use Rattle.cf_term.specs.Core.{depth}
 use Rattle.cf_value.specs.Val.{Val, VParts, Vals, level, form, none, ready, frozen, empty, push}
 use Rattle.cf_eval.specs.Redexes.{Kept, Goal, opened, value, case_of, number_case, list_case}
 

@@ -4,9 +4,10 @@ use Rattle.cf_term.specs.Core.{Tm, Head, AppH, LamH, LetH, PairH, FstH, SndH, Un
 use Rattle.cf_term.specs.Forms.{App, NatRec, ListRec}
 use Rattle.cf_term.specs.Same.{bare}
 use Rattle.cf_term.specs.Substitution.{substitute, up, instance}
-use Rattle.cf_value.specs.Val.{Val, VParts, Vals, level, form, none, ready, frozen, values_in}
+use Rattle.cf_value.specs.Val.{Val, VParts, Vals, form, none, ready, frozen, values_in}
 use Rattle.cf_value.specs.Stands.{term_at, env_at}
-use Rattle.cf_value.specs.Contexts.{IsClosed, IsKnown, AreKnown}
+use Rattle.cf_term.specs.Closed.{IsClosed}
+use Rattle.cf_value.specs.Contexts.{IsKnown, AreKnown}
 use denote.Ref.{Bor}
 use Rattle.std.specs.declared.rc.Rc.{Rc}
 use Rattle.cf_value.specs.declared.values.Value.{Value}

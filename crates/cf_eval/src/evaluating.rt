@@ -1,5 +1,6 @@
 // Evaluation with shared environments: the parts of a form in order, and then its step.
 ghost use Rattle.std.specs.Prelude.{◌≡◌, ◌≤◌, ◌<◌, ◌+◌, ◌∷◌, [], false, max, ℕ, IfOk, None};
+ghost use Rattle.cf_term.specs.Closed.{AreClosed, IsClosed};
 ghost use Rattle.cf_term.specs.Core.{cons, here, later, nil, AppH};
 ghost use Rattle.cf_term.specs.Core.{depth as depth_of, depth_all, parts as parts_of};
 ghost use Rattle.cf_term.specs.Evaluation.{AllDone, Done, evaluate, evaluate_all_by, finish, formed, step};
@@ -8,7 +9,7 @@ ghost use Rattle.cf_term.specs.Numbered.{count as count_of};
 ghost use Rattle.cf_term.specs.Same.{bare, bare_all};
 ghost use Rattle.cf_term.specs.Substitution.{instance, substitute, substitute_all, ups};
 ghost use Rattle.cf_term.specs.View.{tm_of};
-ghost use Rattle.cf_value.specs.Contexts.{below, AreClosed, AreKnownParts, AreValuesIn, IsClosed, IsKnown, IsValueIn, or_levels, with_variables};
+ghost use Rattle.cf_value.specs.Contexts.{below, AreKnownParts, AreValuesIn, IsKnown, IsValueIn, or_levels, with_variables};
 ghost use Rattle.cf_value.specs.Heads.{head_of, Fits};
 ghost use Rattle.cf_value.specs.Seen.{seen_part, seen_parts};
 ghost use Rattle.cf_value.specs.Stands.{env_at, term_at, terms_at, with_levels};

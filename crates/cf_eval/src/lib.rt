@@ -4,7 +4,6 @@
 mod answers;
 mod binders;
 mod calling;
-mod closing;
 mod evaluating;
 mod memory;
 mod reading;
@@ -13,5 +12,4 @@ mod stepping;
 
 pub use answers::{Budget, EvalEnd, Evaluated, Written};
 pub use calling::{evaluate, normalise};
-pub use closing::is_closed;
 pub use reading::read_back;

@@ -1,5 +1,6 @@
 // Reading values back: a node for a step, and kept parts are evaluated before they are written.
 ghost use Rattle.std.specs.Prelude.{◌≡◌, ◌≤◌, ◌∷◌, [], ℕ, IfOk, length};
+ghost use Rattle.cf_term.specs.Closed.{IsClosed};
 ghost use Rattle.cf_term.specs.Core.{nil, var};
 ghost use Rattle.cf_term.specs.Core.{parts as parts_of};
 ghost use Rattle.cf_term.specs.Evaluation.{AllDone, Done};
@@ -10,7 +11,7 @@ ghost use Rattle.cf_value.specs.Heads.{head_of, Fits};
 ghost use Rattle.cf_value.specs.Seen.{seen_part, seen_parts};
 ghost use Rattle.cf_value.specs.Stands.{in_context, term_at, terms_at, with_levels};
 ghost use Rattle.cf_value.specs.Val.{none, parts_in};
-ghost use Rattle.cf_eval.specs.Answers.{Answers, AnswersAll};
+ghost use Rattle.cf_eval.specs.Answers.{Answers, AnswersAll, IsReachedFrom};
 ghost use Rattle.cf_eval.specs.Goals.{part_term};
 ghost use Rattle.cf_eval.specs.Scopes.{at_of};
 ghost use Rattle.cf_eval.specs.Writing.{is_kept, part_written};
@@ -20,8 +21,11 @@ use crate::binders::binds;
 use crate::evaluating::{to_levels, under};
 use crate::memory::{push, sum, to_share};
 use crate::scoping::Scope;
+use cf_reduction::{reading_reaches, reductions_stay_closed};
 use cf_term::{Term, TermNode};
-use cf_value::{Shape, Value, ValueNode, ValuePart, readings_agree, value_out_of_binders};
+use cf_value::{
+    Shape, Value, ValueNode, ValuePart, readings_agree, value_is_closed, value_out_of_binders,
+};
 use std::alloc::Global;
 use std::rc::Rc;
 
@@ -32,12 +36,18 @@ struct AllWritten {
     left: u64,
 }
 
-/// The normal form that the value of a context of `depth` variables is written as. Each node takes a step.
+/// The normal form that the value of a context of `depth` variables is written as. Each node takes a step. The normal form stands
+/// in the context, and reductions lead from the value to it.
 pub fn read_back(alloc: Global, v: &Value, depth: u32, budget: Budget) -> Result<Written, EvalEnd>
     requires { IsValueIn depth v.now }
-    ensures { Answers result (λ w. Done w.term w.left) (read_back budget.steps budget.nest (term_at (in_context depth) v.now)) }
+    ensures equal { Answers result (λ w. Done w.term w.left) (read_back budget.steps budget.nest (term_at (in_context depth) v.now)) }
+    ensures closed { IfOk result (λ w. IsClosed depth w.term) }
+    ensures reached { IfOk result (λ w. IsReachedFrom (term_at (in_context depth) v.now) w.term) }
 {
     readings_agree();
+    value_is_closed();
+    reading_reaches();
+    reductions_stay_closed();
     let scope = Scope::context(depth);
     read(alloc, &scope, v, depth, budget.steps, budget.nest)
 }

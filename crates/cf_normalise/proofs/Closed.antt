@@ -3,7 +3,7 @@ use Rattle.std.proofs.Common.{◌≡◌, ◌∙◌, ◌+◌, ℕ, zero, suc, ref
 use Rattle.cf_term.specs.Core.{Tm}
 use Rattle.cf_term.specs.Same.{bare}
 use Rattle.cf_term.specs.Substitution.{substitute}
-use Rattle.cf_value.specs.Contexts.{IsClosed}
+use Rattle.cf_term.specs.Closed.{IsClosed}
 use Rattle.cf_normalise.specs.Iterated.{call, function, numeral}
 
 numeral_closed : (n m : ℕ) → IsClosed m (numeral n)

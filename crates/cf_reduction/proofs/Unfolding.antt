@@ -1,7 +1,7 @@
 -- Evaluation within a number of steps in a row does not depend on that number, if it is no less than the steps.
 use Rattle.std.specs.Prelude.{ℕ, zero, suc, ◌≤◌, ◌<◌, Bool, true, false, List, Option, Some, None, ◌≡◌, refl}
 use Rattle.std.proofs.Common.{arith}
-use mathlib.Core.Path.{ap, sym, ◌∙◌, subst}
+use mathlib.Core.Path.{ap, ◌∙◌, subst}
 use Rattle.cf_term.specs.Core.{Tm, var, node, Tms, nil, cons, Head, Part, parts, first_part, rest_parts}
 use Rattle.cf_term.specs.Evaluation.{Out, Done, Spent, Deep, Outs, AllDone, AllSpent, AllDeep, evaluate_by, evaluate_all_by, evaluate_within, evaluate, contract, formed, step, step_or, finish, before, and_then}
 use Rattle.cf_reduction.specs.Laws.{EvaluationGoesOn, EvaluationSpends}

@@ -6,7 +6,7 @@ use Rattle.cf_term.specs.Same.{bare}
 use Rattle.cf_term.specs.Evaluation.{Out, Done, Spent, Deep, Outs, AllDone, AllSpent, AllDeep, evaluate}
 use Rattle.cf_term.specs.NormalForms.{write_then, write_all_by, written, write_within, then_read_back}
 use Rattle.cf_term.specs.Reductions.{Reaches, there}
-use Rattle.cf_reduction.specs.Laws.{ReadingReaches, NormalFormReaches}
+use Rattle.cf_reduction.specs.Laws.{ReadingReaches, NormalFormReaches, ReadingOfValueReaches}
 use Rattle.cf_reduction.proofs.Answered.{value_of, values_of, not_spent, not_deep, none_spent, none_deep, by_cases}
 use Rattle.cf_reduction.proofs.Steps.{ReachesAll, all_there, in_turn, in_parts}
 use Rattle.cf_reduction.proofs.Reached.{then_reached, evaluation_reaches}
@@ -52,5 +52,8 @@ then_read_reached d s (Done v k) first u l p known = in_turn (first v k refl kno
 then_read_reached d s Spent first u l p known = absurd (not_spent p)
 then_read_reached d s Deep first u l p known = absurd (not_deep p)
 
+pub value_read_reaches : ReadingOfValueReaches
+value_read_reaches t k d u l p known = then_read_reached d t (evaluate k d t) (λ v j q all. evaluation_reaches t k d v j q all) u l p known
+
 pub normal_form_reaches : NormalFormReaches
-normal_form_reaches t k d u l p known = then_read_reached d (bare t) (evaluate k d (bare t)) (λ v j q all. evaluation_reaches (bare t) k d v j q all) u l p known
+normal_form_reaches t k d u l p known = value_read_reaches (bare t) k d u l p known

@@ -1,2 +1,4 @@
 -- What the laws say.
+pub mod Holes
+pub mod Normal
 pub mod Laws

@@ -1,8 +1,9 @@
 -- The laws of renaming and substitution. `skip` and `in_place` are the renaming and the substitution of the two calls; the laws hold of all.
-use Rattle.std.specs.Prelude.{ℕ, ◌+◌, ◌≡◌, ◌↔◌, IsTrue}
+use Rattle.std.specs.Prelude.{ℕ, ◌+◌, ◌<◌, ◌≤◌, ◌≡◌, ◌↔◌, IsTrue}
 use Rattle.cf_term.specs.Core.{Tm, var}
-use Rattle.cf_term.specs.Same.{plain, same}
-use Rattle.cf_term.specs.Substitution.{rename, substitute, up, instance, shifted, substituted}
+use Rattle.cf_term.specs.Closed.{IsClosed}
+use Rattle.cf_term.specs.Same.{bare, plain, same}
+use Rattle.cf_term.specs.Substitution.{rename, substitute, up, ups, instance, shifted, substituted}
 
 -- two renamings are one
 abbrev pub RenamingsCompose : Type 0
@@ -47,3 +48,41 @@ SubstitutionOfInstance = (s : ℕ → Tm) (t u : Tm) → substitute s (instance 
 -- `same` decides whether two terms are equal, marks and `implicit` flags aside
 abbrev pub SameDecides : Type 0
 SameDecides = (t u : Tm) → IsTrue (same t u) ↔ (plain t ≡ plain u)
+
+-- ---- closed terms
+
+-- a term of n variables is one of more variables
+abbrev pub ClosedAmongMore : Type 0
+ClosedAmongMore = (t : Tm) (n m : ℕ) → n ≤ m → IsClosed n t → IsClosed m t
+
+-- a renaming that keeps the n variables changes no term of these
+abbrev pub RenamingOfClosed : Type 0
+RenamingOfClosed = (t : Tm) (n : ℕ) (f : ℕ → ℕ) → ((i : ℕ) → i < n → f i ≡ i) → IsClosed n t → rename f t ≡ t
+
+-- a substitution that keeps the n variables changes no term of these
+abbrev pub SubstitutionOfClosed : Type 0
+SubstitutionOfClosed = (t : Tm) (n : ℕ) (s : ℕ → Tm) → ((i : ℕ) → i < n → s i ≡ var i) → IsClosed n t → substitute s t ≡ t
+
+-- a term of n variables stays where it is shifted from there on, and where something is put in for a variable from there on
+abbrev pub ShiftOfClosed : Type 0
+ShiftOfClosed = (t u : Tm) (n at by : ℕ) → n ≤ at → IsClosed n t → (shifted t at by ≡ t) × (substituted t at u ≡ t)
+
+-- a renaming of n variables to variables below m makes a term of m variables
+abbrev pub RenamedTermIsClosed : Type 0
+RenamedTermIsClosed = (t : Tm) (n m : ℕ) (f : ℕ → ℕ) → ((i : ℕ) → i < n → f i < m) → IsClosed n t → IsClosed m (rename f t)
+
+-- terms of m variables for n variables, under k binders, make a term of m variables under these binders
+abbrev pub SubstitutionIsClosed : Type 0
+SubstitutionIsClosed = (t : Tm) (k n m : ℕ) (s : ℕ → Tm) → ((i : ℕ) → i < n → IsClosed m (s i)) → IsClosed (n + k) t → IsClosed (m + k) (substitute (ups k s) t)
+
+-- a term of n variables that is shifted has as many variables more
+abbrev pub ShiftedTermIsClosed : Type 0
+ShiftedTermIsClosed = (t : Tm) (n from by : ℕ) → IsClosed n t → IsClosed (n + by) (shifted t from by)
+
+-- a term of n variables for one of n variables and this one
+abbrev pub SubstitutedTermIsClosed : Type 0
+SubstitutedTermIsClosed = (t u : Tm) (n at : ℕ) → at ≤ n → IsClosed (n + 1) t → IsClosed n u → IsClosed n (substituted t at u)
+
+-- taking marks away brings no variable
+abbrev pub BareTermIsClosed : Type 0
+BareTermIsClosed = (t : Tm) (n : ℕ) → IsClosed n t → IsClosed n (bare t)

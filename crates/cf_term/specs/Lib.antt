@@ -4,6 +4,7 @@ pub mod Codes
 pub mod View
 pub mod Falls
 pub mod Substitution
+pub mod Closed
 pub mod Measures
 pub mod Same
 pub mod Numbered

@@ -2,6 +2,7 @@
 use Rattle.std.specs.Prelude.{◌≡◌, ℕ, zero, suc, List, Option, Some, None}
 use Rattle.cf_term.specs.Core.{Tm, var, node, Tms, cons, Head, Part, parts, first_part, rest_parts}
 use Rattle.cf_term.specs.Forms.{Quote, Splice}
+use Rattle.cf_term.specs.Same.{plain}
 use Rattle.cf_term.specs.Substitution.{rename}
 use Rattle.cf_term.specs.Evaluation.{contract}
 
@@ -36,9 +37,9 @@ pub data Reaches (known : ℕ → Option Tm) : Tm → Tm → Type 0 where
   there : {t : Tm} → Reaches known t t
   after : {t u v : Tm} → Reduces known t u → Reaches known u v → Reaches known t v
 
--- the least equivalence that contains one reduction
+-- the least equivalence that contains one reduction, and in which terms that differ in marks and `implicit` flags alone are one
 pub data Converts (known : ℕ → Option Tm) : Tm → Tm → Type 0 where
   reduces : {t u : Tm} → Reduces known t u → Converts known t u
-  itself : {t : Tm} → Converts known t t
+  alike : {t u : Tm} → plain t ≡ plain u → Converts known t u
   backward : {t u : Tm} → Converts known t u → Converts known u t
   in_turn : {t u v : Tm} → Converts known t u → Converts known u v → Converts known t v

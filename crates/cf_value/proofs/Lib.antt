@@ -1,3 +1,4 @@
 pub mod Built
 pub mod Terms
 pub mod Shared
+pub mod Closed

@@ -1,20 +1,11 @@
 -- What a value of a context is.
 use Rattle.std.specs.Prelude.{ℕ, zero, suc, ◌+◌, ◌<◌, ◌≡◌, nat_eq, true, false, List}
-use Rattle.cf_term.specs.Core.{Tm, var, node, Tms, nil, cons, Part, parts, first_part, rest_parts}
+use Rattle.cf_term.specs.Core.{Part, parts, first_part, rest_parts}
+use Rattle.cf_term.specs.Closed.{IsClosed}
 use Rattle.cf_term.specs.Evaluation.{IsValue}
 use Rattle.cf_value.specs.Heads.{Fits}
 use Rattle.cf_value.specs.Val.{Val, VParts, Vals, level, form, none, ready, frozen, empty, push, parts_in, values_in}
 use Rattle.cf_value.specs.Stands.{term_at}
-
--- each variable of the term that is not bound in it is below n
-abbrev mutual
-  pub IsClosed : ℕ → Tm → Type 0
-  IsClosed n (var i) = i < n
-  IsClosed n (node h ts) = AreClosed n (parts h) ts
-
-  pub AreClosed : ℕ → List Part → Tms → Type 0
-  AreClosed n ps nil = Unit {0}
-  AreClosed n ps (cons t ts) = IsClosed (n + (first_part ps).binds) t × AreClosed n (rest_parts ps) ts
 
 -- l, or a level that is known
 abbrev pub or_level : ℕ → (ℕ → Type 0) → ℕ → Type 0

@@ -1,6 +1,7 @@
 -- The laws of what values stand for.
 use Rattle.std.specs.Prelude.{ℕ, ◌+◌, ◌<◌, ◌≤◌, ◌≡◌}
 use Rattle.cf_term.specs.Core.{Tm}
+use Rattle.cf_term.specs.Closed.{IsClosed}
 use Rattle.cf_term.specs.Evaluation.{IsValue}
 use Rattle.cf_term.specs.Substitution.{rename, substitute, up, ups, instance}
 use Rattle.cf_value.specs.Val.{Val, Vals, push}
@@ -38,3 +39,7 @@ ValueOutOfBinders = (n l d m : ℕ) (v : Val) → l + n ≤ m → d ≤ m → Is
 -- what a value stands for depends on the variables of the levels of its context alone
 abbrev pub ReadingsAgree : Type 0
 ReadingsAgree = (d : ℕ) (v : Val) (at to : ℕ → ℕ) → IsValueIn d v → ((n : ℕ) → n < d → at n ≡ to n) → term_at at v ≡ term_at to v
+
+-- where each level of its context stands for one of m variables, a value stands for a term of these
+abbrev pub ValueIsClosed : Type 0
+ValueIsClosed = (v : Val) (d m : ℕ) (at : ℕ → ℕ) → ((n : ℕ) → n < d → at n < m) → IsValueIn d v → IsClosed m (term_at at v)

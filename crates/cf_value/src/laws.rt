@@ -1,10 +1,10 @@
 //! Laws of what values stand for, each proved as the contract of a function that does nothing.
 
-ghost use Rattle.cf_value.specs.Laws.{ArgumentPutIn, EnvironmentUnderBinders, ReadingsAgree, RenamingOfValue, ValueOfContext, ValueOutOfBinders, ValueUnderBinders, VariablesAreValues};
+ghost use Rattle.cf_value.specs.Laws.{ArgumentPutIn, EnvironmentUnderBinders, ReadingsAgree, RenamingOfValue, ValueIsClosed, ValueOfContext, ValueOutOfBinders, ValueUnderBinders, VariablesAreValues};
 
 use cf_term::{
-    renaming_of_substituted, renamings_compose, substitution_of_renamed, substitution_of_variables,
-    substitutions_compose,
+    bare_term_is_closed, renaming_of_substituted, renamings_compose, substitution_is_closed,
+    substitution_of_renamed, substitution_of_variables, substitutions_compose,
 };
 
 /// A renamed term of a value is the term where its levels stand for the renamed variables.
@@ -55,3 +55,11 @@ pub fn value_out_of_binders()
 pub fn readings_agree()
     ensures { ReadingsAgree }
 {}
+
+/// What a value stands for is closed in the context of the variables of its levels.
+pub fn value_is_closed()
+    ensures { ValueIsClosed }
+{
+    bare_term_is_closed();
+    substitution_is_closed();
+}

@@ -10,7 +10,7 @@ mod shapes;
 mod values;
 
 pub use laws::{
-    argument_put_in, environment_under_binders, readings_agree, renaming_of_value,
+    argument_put_in, environment_under_binders, readings_agree, renaming_of_value, value_is_closed,
     value_of_context, value_out_of_binders, value_under_binders, variables_are_values,
 };
 pub use shapes::{Arm, Shape};

@@ -1,5 +1,4 @@
-use Rattle.std.proofs.Common.{◌≡◌, ◌∙◌, ◌+◌, ◌≤◌, sym, ap, arith, max, refl}
-use mathlib.Core.Path.{subst}
+use Rattle.std.proofs.Common.{◌∙◌, sym, ap, arith, max}
 use Rattle.std.proofs.Common.{◌∷◌, [], false}
 use Rattle.cf_term.specs.Core.{depth, depth_all, later, here, AppH}
 use Rattle.cf_term.specs.Evaluation.{AllDone, Done, evaluate, finish}
@@ -7,7 +6,7 @@ use Rattle.cf_term.specs.Numbered.{places, terms}
 use Rattle.cf_term.specs.Same.{bare}
 use Rattle.cf_term.specs.Substitution.{substitute}
 use Rattle.cf_term.specs.View.{tm_of}
-use Rattle.cf_value.specs.Contexts.{below, AreValuesIn, IsClosed, with_variables}
+use Rattle.cf_value.specs.Contexts.{below}
 use Rattle.cf_value.specs.Heads.{head_of}
 use Rattle.cf_value.specs.Seen.{seen_parts}
 use Rattle.cf_value.specs.Stands.{env_at, term_at, terms_at, with_levels}
@@ -15,7 +14,7 @@ use Rattle.cf_value.specs.Val.{values_in}
 use Rattle.cf_eval.specs.Bulk.{bulks}
 use Rattle.cf_eval.specs.Bulk.{bulk, goal_bulk, part_bulk}
 use Rattle.cf_eval.specs.Goals.{goal_of, part_term}
-use Rattle.cf_eval.proofs.Applied.{carry, form_goes, err_one, err_all}
+use Rattle.cf_eval.proofs.Applied.{carry, form_goes, err_all}
 use Rattle.cf_eval.proofs.Binding.{values_with, bulks_with, under_is}
 use Rattle.cf_eval.proofs.Formed.{is_value, step_some, finish_step, finish_stays}
 use Rattle.cf_eval.proofs.Marked.{is_variable}

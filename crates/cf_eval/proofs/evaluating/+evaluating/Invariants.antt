@@ -1,4 +1,4 @@
-use Rattle.std.proofs.Common.{◌≡◌, ◌≤◌, ◌+◌, ◌*◌, max, ℕ, length}
+use Rattle.std.proofs.Common.{◌+◌, ◌*◌, max}
 use Rattle.cf_term.specs.Core.{depth, depth_all}
 use Rattle.cf_term.specs.Numbered.{places, terms}
 use Rattle.cf_term.specs.View.{tm_of}

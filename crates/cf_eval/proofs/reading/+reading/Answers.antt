@@ -1,4 +1,4 @@
-use Rattle.std.proofs.Common.{◌≡◌, ◌∙◌, ◌+◌, ◌≤◌, sym, ap, arith, refl}
+use Rattle.std.proofs.Common.{◌≡◌, ◌∙◌, sym, ap, arith}
 use mathlib.Core.Path.{subst}
 use Rattle.cf_term.specs.Core.{nil, parts}
 use Rattle.cf_term.specs.Evaluation.{AllDone, Done}
@@ -7,7 +7,7 @@ use Rattle.cf_term.specs.View.{listed}
 use Rattle.cf_value.specs.Contexts.{below}
 use Rattle.cf_value.specs.Heads.{head_of}
 use Rattle.cf_value.specs.Seen.{seen_parts, seen_value}
-use Rattle.cf_value.specs.Stands.{term_at, with_levels}
+use Rattle.cf_value.specs.Stands.{term_at}
 use Rattle.cf_value.specs.Val.{form}
 use Rattle.cf_eval.specs.Answers.{Answers}
 use Rattle.cf_eval.specs.Scopes.{at_of}

@@ -13,4 +13,4 @@ pub returns : goal.returns
 returns c =
     let same : substitute (env_at (in_context 0) c.empty.result) (bare c.deref.result.now) ≡ bare (call c.args.levels) =
     rw (c.deref.ensures, c.in_ok-t.ensures) (bare_call_unchanged c.args.levels _) in
-    rw same at c.normalise-2.ensures
+    rw same at c.normalise-2.ensures.equal

@@ -1,11 +1,11 @@
 -- Whether terms are closed, by their parts in order.
-use Rattle.std.proofs.Common.{◌≡◌, ℕ, zero, suc, ◌+◌, Bool, true, false, List, Some, None, Decides, refl, arith}
-use Rattle.cf_term.specs.Core.{Tm, var, node, Tms, nil, cons, Part, first_part, rest_parts}
+use Rattle.std.proofs.Common.{◌≡◌, ℕ, zero, suc, ◌+◌, Bool, true, false, List, Some, None, Decides, arith}
+use Rattle.cf_term.specs.Core.{Tm, var, node, Tms, nil, cons, Part, rest_parts}
 use Rattle.cf_term.specs.Numbered.{part_at, places, terms, variable_of, IsPart}
 use Rattle.cf_term.specs.View.{marked}
 use Rattle.cf_term.specs.declared.parts.Part as seen
-use Rattle.cf_value.specs.Contexts.{AreClosed, IsClosed}
-use Rattle.cf_eval.proofs.Walked.{after, places_after}
+use Rattle.cf_term.specs.Closed.{AreClosed, IsClosed}
+use Rattle.cf_term.proofs.Walked.{after, places_after}
 
 -- a part of closed parts is closed
 pub part_closed : (n : ℕ) (ps : List Part) (ts : Tms) (i : ℕ) (p : seen.Part) → IsPart (Some p) (part_at ps ts i) → AreClosed n ps ts → IsClosed (n + p.binds) p.term.now.value

@@ -1,10 +1,10 @@
 // Whether a term stands in a context of so many variables. No memory is taken.
 ghost use Rattle.std.specs.Prelude.{◌≡◌, ◌-◌, ◌^◌, ℕ, min, None, Decides};
+ghost use Rattle.cf_term.specs.Closed.{AreClosed, IsClosed};
 ghost use Rattle.cf_term.specs.Numbered.{places, terms, variable_of};
 ghost use Rattle.cf_term.specs.View.{tm_of};
-ghost use Rattle.cf_value.specs.Contexts.{AreClosed, IsClosed};
 
-use cf_term::{Term, TermNode};
+use crate::forms::{Term, TermNode};
 
 /// Whether each variable of the term that is not bound in it is below `variables`.
 pub fn is_closed(t: &Term, variables: u32) -> bool

@@ -2,9 +2,9 @@ use Rattle.std.proofs.Common.{◌≡◌, ◌*◌, ◌+◌, ◌-◌, ◌^◌, min
 use Rattle.cf_term.specs.Core.{depth}
 use Rattle.cf_term.specs.View.{tm_of}
 use Rattle.cf_term.specs.Numbered.{places, terms}
-use Rattle.cf_value.specs.Contexts.{AreClosed}
-use Rattle.cf_eval.proofs.Walked.{after, places_after}
-use Rattle.cf_eval.proofs.closing.+closing.Given as goal
+use Rattle.cf_term.specs.Closed.{AreClosed}
+use Rattle.cf_term.proofs.Walked.{after, places_after}
+use Rattle.cf_term.proofs.closing.+closing.Given as goal
 
 abbrev pub invariant-are_below-loop-i : goal.invariant-are_below-loop-i
 invariant-are_below-loop-i l = (n : ℕ) → min n (2 ^ 64 - 1) ≡ l.variables → AreClosed n (places_after l.i (places (tm_of l.node))) (after l.i (terms (tm_of l.node))) → AreClosed n (places (tm_of l.node)) (terms (tm_of l.node))

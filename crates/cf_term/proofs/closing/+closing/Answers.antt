@@ -1,11 +1,10 @@
-use Rattle.std.proofs.Common.{◌≡◌, ◌+◌, true, false, arith, ap, refl}
+use Rattle.std.proofs.Common.{◌≡◌, ◌+◌, true, arith, ap, refl}
 use Rattle.cf_term.specs.Core.{depth}
 use Rattle.cf_term.specs.Numbered.{places, terms}
 use Rattle.cf_term.specs.View.{tm_of}
-use Rattle.cf_eval.proofs.Below.{part_closed, from_next}
-use Rattle.cf_eval.proofs.Marked.{depth_terms}
-use Rattle.cf_eval.proofs.Walked.{seen_deep, not_past, after_end}
-use Rattle.cf_eval.proofs.closing.+closing.Goals as goal
+use Rattle.cf_term.proofs.Below.{part_closed, from_next}
+use Rattle.cf_term.proofs.Walked.{seen_deep, depth_terms, not_past, after_end}
+use Rattle.cf_term.proofs.closing.+closing.Goals as goal
 
 pub are_below-is_below-requires : goal.are_below-is_below-requires
 are_below-is_below-requires t c =
