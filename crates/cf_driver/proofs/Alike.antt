@@ -9,7 +9,7 @@ use Rattle.cf_base.specs.declared.outcome.Outcome.TheVariants as outcome
 use Rattle.cf_object.specs.Machine.{After, Ended}
 use Rattle.cf_object.specs.Program.{program_run, first_state, EndsWithin}
 use Rattle.cf_object.proofs.EndedStays.{ended_stays_lem}
-use Rattle.wb_syntax.specs.Runs.{RunEnd, Returned, StackFull, HasEnded, mach}
+use Rattle.wb_syntax.specs.Runs.{RunEnd, Returned, StackFull, HasEnded, IsStackFull, mach}
 use Rattle.wb_syntax.proofs.Longer.{mach_longer}
 use Rattle.cf_driver.specs.Sums.{Sum, Number, Plus}
 use Rattle.cf_agreement.specs.Agreement.{Agrees, returned, IsOver, AreArguments, EndsAlike}
@@ -39,8 +39,12 @@ agrees o z e p q = subst (λ x. Agrees x e) (sym p) (subst (λ x. Agrees (outcom
 ended_is : (region : ℕ) (o p : Outcome) (calls peak calls' peak' : ℕ) → ◌≡◌ {A = After region} (Ended o calls peak) (Ended p calls' peak') → o ≡ p
 ended_is region o p calls peak calls' peak' e = cc
 
+full_ended : (e : RunEnd) → IsStackFull e → HasEnded e
+full_ended (StackFull s) h = tt
+full_ended _ h = absurd h
+
 comes_ended : (z : ℤ) (e : RunEnd) → Comes e (Returned z no_data) → HasEnded e
-comes_ended z e c = ⊎_elim (λ p. subst HasEnded (sym p) tt) (λ p. subst HasEnded (sym p) tt) c
+comes_ended z e c = ⊎_elim (λ p. subst HasEnded (sym p) tt) (λ p. full_ended e p) c
 
 module _ (s : Sum) (fits : AllFit s) (region : ℕ) where
   outcome_is : (n : ℕ) (o : Outcome) → EndsWithin (program_of s) [] region n o → o ≡ outcome.Returned (value s)
@@ -66,7 +70,7 @@ module _ (s : Sum) (fits : AllFit s) (region : ℕ) where
 
   -- ---- the three promises, for `main` without parameters
 
-  ends_forth : (n : ℕ) (o : Outcome) → EndsWithin (program_of s) [] region n o → (W : ℕ) → (k : ℕ) × (Agrees o (mach (module_of s) [] W k) ⊎ (mach (module_of s) [] W k ≡ StackFull))
+  ends_forth : (n : ℕ) (o : Outcome) → EndsWithin (program_of s) [] region n o → (W : ℕ) → (k : ℕ) × (Agrees o (mach (module_of s) [] W k) ⊎ IsStackFull (mach (module_of s) [] W k))
   ends_forth n o ends W = (end_steps s, ⊎_elim (λ p. inl (agrees o (value s) _ (outcome_is n o ends) p)) inr (comes W))
 
   ends_back : (W k : ℕ) → IsOver (mach (module_of s) [] W k) → (n : ℕ) × (o : Outcome) × EndsWithin (program_of s) [] region n o × Agrees o (mach (module_of s) [] W k)
@@ -75,7 +79,7 @@ module _ (s : Sum) (fits : AllFit s) (region : ℕ) where
         source.end_steps region s,
         outcome.Returned (value s),
         (0, 0, program_ends region s),
-        ⊎_elim (λ p. agrees _ (value s) _ refl (same ∙ p)) (λ p. absurd (over.1 (same ∙ p))) (comes W),
+        ⊎_elim (λ p. agrees _ (value s) _ refl (same ∙ p)) (λ p. absurd (over.1 (subst IsStackFull (sym same) p))) (comes W),
       )
 
   ends_with_room : (n : ℕ) (o : Outcome) → EndsWithin (program_of s) [] region n o → (W : ℕ) × (k : ℕ) × Agrees o (mach (module_of s) [] W k)
@@ -89,7 +93,7 @@ no_arguments (z ∷ zs) are = absurd (omega (arith, are.count))
 
 pub ends_alike : (s : Sum) → AllFit s → (region : ℕ) → EndsAlike (program_of s) 0 region (module_of s)
 ends_alike s fits region = record {
-  forth = λ args are. subst (λ xs. (n : ℕ) (o : Outcome) → EndsWithin (program_of s) xs region n o → (W : ℕ) → (k : ℕ) × (Agrees o (mach (module_of s) xs W k) ⊎ (mach (module_of s) xs W k ≡ StackFull))) (sym (no_arguments args are)) (ends_forth s fits region);
+  forth = λ args are. subst (λ xs. (n : ℕ) (o : Outcome) → EndsWithin (program_of s) xs region n o → (W : ℕ) → (k : ℕ) × (Agrees o (mach (module_of s) xs W k) ⊎ IsStackFull (mach (module_of s) xs W k))) (sym (no_arguments args are)) (ends_forth s fits region);
   back = λ args are. subst (λ xs. (W k : ℕ) → IsOver (mach (module_of s) xs W k) → (n : ℕ) × (o : Outcome) × EndsWithin (program_of s) xs region n o × Agrees o (mach (module_of s) xs W k)) (sym (no_arguments args are)) (ends_back s fits region);
   room = λ args are. subst (λ xs. (n : ℕ) (o : Outcome) → EndsWithin (program_of s) xs region n o → (W : ℕ) × (k : ℕ) × Agrees o (mach (module_of s) xs W k)) (sym (no_arguments args are)) (ends_with_room s fits region);
 }

@@ -12,7 +12,7 @@ use Rattle.wb_syntax.specs.Table.{row_at}
 use Rattle.wb_syntax.specs.Numbers.{signed}
 use Rattle.wb_syntax.specs.Nesting.{flat, Level, levels, nested, put_before, whole}
 use Rattle.wb_syntax.specs.Execute.{Word, word, TheStore, Frame, Config, placed_at}
-use Rattle.wb_syntax.specs.Runs.{Main, RunEnd, Returned, StackFull, Stuck, runs, mach, first_config}
+use Rattle.wb_syntax.specs.Runs.{Main, RunEnd, Returned, StackFull, Stuck, IsStackFull, runs, mach, first_config}
 use Rattle.cf_driver.specs.Sums.{Sum, Number, Plus}
 use Rattle.cf_driver.specs.Lowering.{instructions, module_of, func_of}
 
@@ -64,10 +64,10 @@ steps (Plus a b) n = steps a (steps b (suc n))
 
 -- the two runs end alike, or the words of the first do not suffice
 abbrev pub Comes : RunEnd → RunEnd → Type 0
-Comes a b = (a ≡ b) ⊎ (a ≡ StackFull)
+Comes a b = (a ≡ b) ⊎ IsStackFull a
 
 then_comes : (a b c : RunEnd) → Comes a b → Comes b c → Comes a c
-then_comes a b c p q = ⊎_elim (λ e. ⊎_elim (λ f. inl (e ∙ f)) (λ f. inr (e ∙ f)) q) (λ e. inr e) p
+then_comes a b c p q = ⊎_elim (λ e. ⊎_elim (λ f. inl (e ∙ f)) (λ f. inr (subst IsStackFull (sym e) f)) q) (λ e. inr e) p
 
 -- words that suffice for the code of a sum, beside those that are there
 abbrev pub need : Sum → ℕ
@@ -79,7 +79,7 @@ module _ (m : Module) (room : ℕ) where
   unfolding row_at
   add_comes W n x y ws rest =
       let next = runs m room W n (at (word I64 ((x + y) % 2 ^ 64) ∷ ws) rest) in
-      elim (nat_lt W (0 + 4 + 0 + length (word I64 y ∷ word I64 x ∷ ws) + 0 + 0)) as (λ t. Comes (elim t [ true ↦ StackFull | false ↦ next ]) next) [ true ↦ inr refl | false ↦ inl refl ]
+      elim (nat_lt W (0 + 4 + 0 + length (word I64 y ∷ word I64 x ∷ ws) + 0 + 0)) as (λ t. Comes (elim t [ true ↦ StackFull no_data | false ↦ next ]) next) [ true ↦ inr tt | false ↦ inl refl ]
 
   code_comes : (s : Sum) (rest : Code) (W n : ℕ) (ws : List Word) → Comes (runs m room W (steps s n) (at ws (code_of s rest))) (runs m room W n (at (word I64 (bits s) ∷ ws) rest))
   code_comes (Number z) rest W n ws = inl refl
@@ -90,7 +90,7 @@ module _ (m : Module) (room : ℕ) where
 
   leaves : (W v : ℕ) → Comes (runs m room W (suc zero) (at (word I64 v ∷ []) Nothing)) (Returned (signed I64 v) no_data)
   leaves W v =
-      elim (nat_lt W 5) as (λ t. Comes (elim t [ true ↦ StackFull | false ↦ Returned (signed I64 v) no_data ]) (Returned (signed I64 v) no_data)) [ true ↦ inr refl | false ↦ inl refl ]
+      elim (nat_lt W 5) as (λ t. Comes (elim t [ true ↦ StackFull no_data | false ↦ Returned (signed I64 v) no_data ]) (Returned (signed I64 v) no_data)) [ true ↦ inr tt | false ↦ inl refl ]
 
   -- ---- the same, where the words suffice
 
@@ -98,7 +98,7 @@ module _ (m : Module) (room : ℕ) where
   unfolding row_at
   add_with_room W n x y ws rest fits =
       let next = runs m room W n (at (word I64 ((x + y) % 2 ^ 64) ∷ ws) rest) in
-      ap (λ t. elim t [ true ↦ StackFull | false ↦ next ]) (le-ltb W (0 + 4 + 0 + length (word I64 y ∷ word I64 x ∷ ws) + 0 + 0) (omega arith))
+      ap (λ t. elim t [ true ↦ StackFull no_data | false ↦ next ]) (le-ltb W (0 + 4 + 0 + length (word I64 y ∷ word I64 x ∷ ws) + 0 + 0) (omega arith))
 
   code_with_room : (s : Sum) (rest : Code) (W n : ℕ) (ws : List Word) → need s + length ws ≤ W → runs m room W (steps s n) (at ws (code_of s rest)) ≡ runs m room W n (at (word I64 (bits s) ∷ ws) rest)
   code_with_room (Number z) rest W n ws fits = refl
@@ -109,7 +109,7 @@ module _ (m : Module) (room : ℕ) where
       ∙ add_with_room W n (bits a) (bits b) ws rest (omega arith)
 
   leaves_with_room : (W v : ℕ) → 5 ≤ W → runs m room W (suc zero) (at (word I64 v ∷ []) Nothing) ≡ Returned (signed I64 v) no_data
-  leaves_with_room W v fits = ap (λ t. elim t [ true ↦ StackFull | false ↦ Returned (signed I64 v) no_data ]) (le-ltb W 5 fits)
+  leaves_with_room W v fits = ap (λ t. elim t [ true ↦ StackFull no_data | false ↦ Returned (signed I64 v) no_data ]) (le-ltb W 5 fits)
 
 -- ---- the module's run
 
@@ -117,7 +117,7 @@ module _ (m : Module) (room : ℕ) where
 mach_is : (s : Sum) (W n : ℕ) → mach (module_of s) [] W n ≡ runs (module_of s) 0 W n (at [] (code_of s Nothing))
 mach_is s W n =
     let main : Main = record { func = func_of s; type = record { params = []; result = Some I64 } } in
-    ap (λ (body : Option Code). elim body [ None ↦ Stuck | Some c ↦ runs (module_of s) 0 W n (first_config (module_of s) 0 main [] no_data c) ]) (nested_body s)
+    ap (λ (body : Option Code). elim body [ None ↦ Stuck no_data | Some c ↦ runs (module_of s) 0 W n (first_config (module_of s) 0 main [] no_data c) ]) (nested_body s)
 
 -- the number of steps in which the module ends
 abbrev pub end_steps : Sum → ℕ

@@ -3,7 +3,7 @@ use Rattle.std.specs.Prelude.{◌≡◌, ◌≢◌, ◌⊎◌, ℕ, ◌<◌, ◌
 use Rattle.wb_syntax.specs.declared.syntax.Module.{Module}
 use Rattle.wb_syntax.specs.Binary.{Encodes, MalformedAt, OutsideAt, decoded}
 use Rattle.wb_syntax.specs.Execute.{Config}
-use Rattle.wb_syntax.specs.Runs.{RunEnd, Running, fixed_room, mach, main_arity}
+use Rattle.wb_syntax.specs.Runs.{RunEnd, Running, IsStackFull, IsStuck, fixed_room, mach, main_arity}
 use Rattle.wb_syntax.specs.Runs as end
 use Rattle.wb_syntax.specs.Typing.{Valid, IsFirstInvalid}
 use Rattle.wb_decode.specs.Reading.{what_of}
@@ -62,8 +62,8 @@ IsNotCallable m count _ = ⊥
 -- why the first run of the module, on as many arguments as it takes, has no such end
 abbrev pub HasNoEnd : Module → (args : List ℤ) → (words limit : ℕ) → Refusal → Type 0
 HasNoEnd m args words limit (StepLimit steps) = IsCallable m (length args) × (steps ≡ limit) × ((c : Config) × (mach m args words limit ≡ Running c))
-HasNoEnd m args words limit (StackFull room) = IsCallable m (length args) × (room ≡ words) × (mach m args words limit ≡ end.StackFull)
-HasNoEnd m args words limit Stuck = IsCallable m (length args) × (mach m args words limit ≡ end.Stuck)
+HasNoEnd m args words limit (StackFull room) = IsCallable m (length args) × (room ≡ words) × IsStackFull (mach m args words limit)
+HasNoEnd m args words limit Stuck = IsCallable m (length args) × IsStuck (mach m args words limit)
 HasNoEnd m args words limit _ = ⊥
 
 -- ---- answers

@@ -1,5 +1,5 @@
 -- What an instruction does to a run is a step of the definition of execution.
-use Rattle.std.proofs.Common.{◌≡◌, ℕ, zero, suc, ◌+◌, ◌<◌, List, [], ◌∷◌, length, drop, arith, refl, sym, ap, subst, ◌∙◌, add-one}
+use Rattle.std.proofs.Common.{◌≡◌, ℕ, zero, suc, ◌+◌, ◌<◌, ◌≤◌, List, [], ◌∷◌, length, drop, arith, refl, sym, ap, subst, ◌∙◌, add-one}
 use Rattle.std.specs.Prelude.{Bool, true, false, Some, None, slice_get}
 use Rattle.wb_syntax.specs.declared.syntax.Instr.{Instr}
 use Rattle.wb_syntax.specs.declared.syntax.Instr.TheVariants.{Block, Loop, If, Else, End, Br, BrIf, BrTable, Return, Call, I32Const, I64Const}
@@ -7,10 +7,10 @@ use Rattle.wb_syntax.specs.declared.syntax.Func.{Func}
 use Rattle.wb_syntax.specs.declared.syntax.Module.{Module}
 use Rattle.wb_syntax.specs.Syntax.{Code, Then, Plain}
 use Rattle.wb_syntax.specs.Nesting.{Level, put, put_instr, levels}
-use Rattle.wb_syntax.specs.Execute.{Word, Label as Opened, Frame, Config, Move, Goes, Finishes, Traps, NoRule, settle, step_at, machine_step}
+use Rattle.wb_syntax.specs.Execute.{Word, TheStore, Label as Opened, Frame, Config, Move, Goes, Finishes, Traps, NoRule, settle, step_at, machine_step}
 use Rattle.wb_syntax.specs.Runs.{words_of, before_step}
 use Rattle.wb_code.specs.declared.leading.Jump.{Jump}
-use Rattle.wb_state.specs.Stack.{IsOver}
+use Rattle.wb_state.specs.Stack.{height_of, IsOver}
 use Rattle.wb_plain.specs.Effects.{State, kind_of, SameStore, effect, Ends}
 use Rattle.wb_plain.specs.Laws.{EffectsFollow}
 use Rattle.wb_plain.specs.declared.outcome.Outcome.{Outcome}
@@ -28,6 +28,7 @@ use Rattle.wb_control.proofs.Leaving.{IsStep}
 use Rattle.wb_control.proofs.Branching.{shaped}
 use Rattle.wb_control.proofs.Controls.{IsControl, control_step, moved_stands}
 use Rattle.wb_control.proofs.Counting.{words_least}
+use Rattle.wb_control.proofs.Kept.{LeadsWith, leads_with}
 
 none_some : {A : Type 0} (x : A) → None ≡ Some x → ⊥
 none_some x e = cc
@@ -70,10 +71,10 @@ unsettled ws k _ h = refl
 
 -- ---- control instructions
 
-too_full : (m : Module) (room : ℕ) (r : Run) (move : Move) (ch : Change) → IsStep m r move ch → IsTooFull room ch → (d : Config) × (move ≡ Goes d) × (room < words_of d)
-too_full m room r move (Leads q) s h = let w = words_least m q s.0 s.2 in (s.0, s.1, omega (arith, w, h))
-too_full m room r move (Returns ws) s h = absurd h
-too_full m room r move Fails s h = absurd h
+too_full : (m : Module) (room : ℕ) (r : Run) (move : Move) (ch : Change) (t : TheStore) → IsStep m r move ch → LeadsWith t ch → IsTooFull room ch → (d : Config) × (move ≡ Goes d) × (room < words_of d) × (d.store ≡ t)
+too_full m room r move (Leads q) t s k h = let w = words_least m q s.0 s.2 in (s.0, s.1, omega (arith, w, h), ap (λ (d : Config). d.store) s.2.is ∙ k)
+too_full m room r move (Returns ws) t s k h = absurd h
+too_full m room r move Fails t s k h = absurd h
 
 -- the step leads to a configuration for which the run stands that is left
 abbrev LeadsTo : Module → Move → Run → Type 0
@@ -84,28 +85,30 @@ abbrev pub IsMove : Module → Move → Flow → (old new : Run) → Type 0
 IsMove m move FlowSettles old new = ⊥
 IsMove m move FlowGoes old new = LeadsTo m move new
 IsMove m move FlowMoves old new = LeadsTo m move new
-IsMove m move FlowFull old new = (d : Config) × (move ≡ Goes d) × (old.state.operands.room < words_of d)
+IsMove m move FlowFull old new = (d : Config) × (move ≡ Goes d) × (old.state.operands.room < words_of d) × (d.store ≡ store_of new.state)
 IsMove m move FlowFinishes old new = move ≡ Finishes (results_of new.result) (store_of new.state)
 IsMove m move (FlowTraps k) old new = move ≡ Traps (kind_of k) (store_of new.state)
-IsMove m move FlowStuck old new = move ≡ NoRule
+IsMove m move FlowStuck old new = (move ≡ NoRule) × SameStore old.state new.state
 
 pub same_store : (old new : State) → SameStore old new → store_of old ≡ store_of new
 same_store old new h = λ i. record { memory = sym h.0 i; globals = sym h.1 i }
 
-came : (m : Module) (move : Move) (flow : Flow) (ch : Change) (old new : Run) → IsStep m old move ch → Comes flow ch old new → IsMove m move flow old new
-came m move FlowSettles ch old new s h = absurd h
-came m move FlowGoes ch old new s h = subst (IsStep m old move) h.0 s
-came m move FlowMoves ch old new s h = subst (IsStep m old move) h.0 s
-came m move FlowFull ch old new s h = too_full m old.state.operands.room old move ch s h.0
-came m move FlowFinishes ch old new s h = subst (IsStep m old move) h.0 s ∙ ap (Finishes (results_of new.result)) (same_store old.state new.state h.1)
-came m move (FlowTraps k) ch old new s h = absurd h
-came m move FlowStuck ch old new s h = subst (IsStep m old move) h.0 s
+came : (m : Module) (move : Move) (flow : Flow) (ch : Change) (old new : Run) → IsStep m old move ch → LeadsWith (store_of old.state) ch → Comes flow ch old new → IsMove m move flow old new
+came m move FlowSettles ch old new s k h = absurd h
+came m move FlowGoes ch old new s k h = subst (IsStep m old move) h.0 s
+came m move FlowMoves ch old new s k h = subst (IsStep m old move) h.0 s
+came m move FlowFull ch old new s k h =
+    let f = too_full m old.state.operands.room old move ch (store_of old.state) s k h.0 in
+    (f.0, f.1, f.2, f.3 ∙ same_store old.state new.state h.1)
+came m move FlowFinishes ch old new s k h = subst (IsStep m old move) h.0 s ∙ ap (Finishes (results_of new.result)) (same_store old.state new.state h.1)
+came m move (FlowTraps x) ch old new s k h = absurd h
+came m move FlowStuck ch old new s k h = (subst (IsStep m old move) h.0 s, h.1)
 
 pub control_moves : (m : Module) (js : List (List Jump)) (room next : ℕ) (c : Config) (flow : Flow) (f : Func) (i : Instr) (old new : Run) → next ≡ old.place.at + 1 → AllNested m → AllLead m js → slice_get m.funcs old.place.func ≡ Some f → slice_get f.body old.place.at ≡ Some i → is_control i ≡ true → Stands m old c → Comes flow (controlled m js next old i) old new → IsMove m (machine_step m room c) flow old new
 control_moves m js room next c flow f i old new e nests leads named there h s k =
     let n : next ≡ suc old.place.at = e ∙ add-one old.place.at in
     let step = control_step m js room old c f i nests leads named there (controls i h) s in
-    came m (machine_step m room c) flow (controlled m js next old i) old new (subst (λ x. IsStep m old (machine_step m room c) (controlled m js x old i)) (sym n) step) k
+    came m (machine_step m room c) flow (controlled m js next old i) old new (subst (λ x. IsStep m old (machine_step m room c) (controlled m js x old i)) (sym n) step) (leads_with m js next old i) k
 
 -- ---- other instructions
 
@@ -140,9 +143,9 @@ straight_at m r c f i named there h k s =
       goes = λ t b o. moved_stands m r f t s.own s.rest g.rest s.labels s.tail s.callers named b o s.split s.mark s.inside.bottom s.waits g.next;
     }
 
-pub straight_moves : (m : Module) (next : ℕ) (c : Config) (flow : Flow) (f : Func) (i : Instr) (old new : Run) → next ≡ old.place.at + 1 → slice_get m.funcs old.place.func ≡ Some f → slice_get f.body old.place.at ≡ Some i → is_control i ≡ false → is_constant i ≡ false → Stands m old c → Straightens flow i next old new → IsMove m (machine_step m (pages_of old.state.memory) c) flow old new
-straight_moves m next c FlowSettles f i old new e named there h k s st = absurd st
-straight_moves m next c FlowGoes f i old new e named there h k s st =
+pub straight_moves : (m : Module) (next : ℕ) (c : Config) (flow : Flow) (f : Func) (i : Instr) (old new : Run) → next ≡ old.place.at + 1 → height_of old.state.operands ≤ old.state.operands.most → slice_get m.funcs old.place.func ≡ Some f → slice_get f.body old.place.at ≡ Some i → is_control i ≡ false → is_constant i ≡ false → Stands m old c → Straightens flow i next old new → IsMove m (machine_step m (pages_of old.state.memory) c) flow old new
+straight_moves m next c FlowSettles f i old new e l named there h k s st = absurd st
+straight_moves m next c FlowGoes f i old new e l named there h k s st =
     let a = straight_at m old c f i named there h k s in
     let n : next ≡ suc old.place.at = e ∙ add-one old.place.at in
     let d = shaped old a.labels a.callers old.state.operands.above (Then (Plain i) a.rest) in
@@ -150,21 +153,21 @@ straight_moves m next c FlowGoes f i old new e named there h k s st =
     let same : q ≡ new = sym (st.0 ∙ ap (at_place (in_state old new.state)) n) in
     let stands = a.goes new.state st.2.below st.2.outer in
     (shown q a.rest a.labels a.callers, a.step ∙ st.3 m d a.rest, subst (λ r. Stands m r (shown q a.rest a.labels a.callers)) same stands)
-straight_moves m next c FlowMoves f i old new e named there h k s st = absurd st
-straight_moves m next c FlowFull f i old new e named there h k s st =
+straight_moves m next c FlowMoves f i old new e l named there h k s st = absurd st
+straight_moves m next c FlowFull f i old new e l named there h k s st =
     let a = straight_at m old c f i named there h k s in
     let d = shaped old a.labels a.callers old.state.operands.above (Then (Plain i) a.rest) in
     let o = st.0 m d a.rest in
     let q : Run = at_place (in_state old o.0) (suc old.place.at) in
     let w = words_least m q (shown q a.rest a.labels a.callers) (a.goes o.0 o.2.below o.2.outer) in
-    (shown q a.rest a.labels a.callers, a.step ∙ o.1, omega (arith, w, o.3))
-straight_moves m next c FlowFinishes f i old new e named there h k s st = absurd st
-straight_moves m next c (FlowTraps x) f i old new e named there h k s st =
+    (shown q a.rest a.labels a.callers, a.step ∙ o.1, omega (arith, w, o.3), sym (same_store old.state o.0 (o.4 l)) ∙ same_store old.state new.state st.1)
+straight_moves m next c FlowFinishes f i old new e l named there h k s st = absurd st
+straight_moves m next c (FlowTraps x) f i old new e l named there h k s st =
     let a = straight_at m old c f i named there h k s in
     a.step ∙ st.0 m (shaped old a.labels a.callers old.state.operands.above (Then (Plain i) a.rest)) a.rest ∙ ap (Traps (kind_of x)) (same_store old.state new.state st.1)
-straight_moves m next c FlowStuck f i old new e named there h k s st =
+straight_moves m next c FlowStuck f i old new e l named there h k s st =
     let a = straight_at m old c f i named there h k s in
-    a.step ∙ st.0 m (shaped old a.labels a.callers old.state.operands.above (Then (Plain i) a.rest)) a.rest
+    (a.step ∙ st.0 m (shaped old a.labels a.callers old.state.operands.above (Then (Plain i) a.rest)) a.rest, st.1)
 
 -- ---- a run that stands for a configuration has an instruction at its place
 
@@ -199,7 +202,7 @@ over_words r s f k o = let l = k.outer in let a = ap length k.outer in omega (ar
 pub stops : (o : Outcome) (i : Instr) (next : ℕ) (r : Run) (s : State) → (o ≡ OutcomeGoes → ⊥) → EffectsFollow → is_control i ≡ false → Fits r → Ends o (effect i r.state) r.state s → Straightens (flow_of o) i next r (in_state r s)
 stops OutcomeGoes i next r s not follows h f e = absurd (not refl)
 stops OutcomeFull i next r s not follows h f e =
-    ((λ m d rest. let g = (follows m d rest i OutcomeFull r.state s (is_straight i h) e).0 in (g.0, g.1, g.3, over_words r g.0 f g.3 g.2)), e.1, (e.2, refl, refl))
+    ((λ m d rest. let g = (follows m d rest i OutcomeFull r.state s (is_straight i h) e).0 in (g.0, g.1, g.3, over_words r g.0 f g.3 g.2, g.4)), e.1, (e.2, refl, refl))
 stops (OutcomeTraps k) i next r s not follows h f e = ((λ m d rest. (follows m d rest i (OutcomeTraps k) r.state s (is_straight i h) e).0), e.1, (e.2, refl, refl))
 stops OutcomeStuck i next r s not follows h f e = ((λ m d rest. (follows m d rest i OutcomeStuck r.state s (is_straight i h) e).0), e.1, (e.2, refl, refl))
 

@@ -4,11 +4,11 @@ use Rattle.std.specs.Prelude.{Bool, true, false, Option, Some, None, slice_get}
 use Rattle.wb_syntax.specs.declared.syntax.Instr.{Instr}
 use Rattle.wb_syntax.specs.declared.syntax.Instr.TheVariants.{GlobalSet, Store, I32Const, I64Const}
 use Rattle.wb_syntax.specs.declared.syntax.Module.{Module}
-use Rattle.wb_syntax.specs.Execute.{Word, Config}
-use Rattle.wb_syntax.specs.Runs.{words_of}
+use Rattle.wb_syntax.specs.Execute.{Word, TheStore, Config}
+use Rattle.wb_syntax.specs.Runs.{StackFull, words_of}
 use Rattle.wb_state.specs.Stack.{height_of, put}
 use Rattle.wb_plain.specs.Effects.{SameStore, writes_store}
-use Rattle.wb_plain.specs.Follows.{pages_of, length_of}
+use Rattle.wb_plain.specs.Follows.{store_of, pages_of, length_of}
 use Rattle.wb_code.specs.declared.leading.Jump.{Jump}
 use Rattle.wb_control.specs.Changes.{Run, Fits, Comes, SameRooms, at_place, with_stack}
 use Rattle.wb_control.specs.Steps.{controlled}
@@ -16,7 +16,7 @@ use Rattle.wb_control.specs.Stands.{HasBody, AllNested, AllLead, Stands}
 use Rattle.wb_control.specs.Advances.{is_control, is_constant, constant_word, Puts, Straightens, Carries, Advances, FitsOn, Stays, Spares, is_made, HasStep}
 use Rattle.wb_control.specs.declared.run.Flow.{Flow}
 use Rattle.wb_control.specs.declared.run.Flow.TheVariants.{Settles as FlowSettles, Goes as FlowGoes, Moves as FlowMoves, Full as FlowFull, Finishes as FlowFinishes, Traps as FlowTraps, Stuck as FlowStuck}
-use Rattle.wb_control.proofs.Advanced.{control_moves, straight_moves, has_control, has_straight, made}
+use Rattle.wb_control.proofs.Advanced.{same_store, control_moves, straight_moves, has_control, has_straight, made}
 use Rattle.wb_control.proofs.Constants.{body_there, put_in, over, not_constant, settled_words}
 use Rattle.wb_control.proofs.Running.{full_at, moved}
 
@@ -37,11 +37,17 @@ as_straight flow m js next i j old new e k h s =
 
 -- ---- a constant
 
+-- the store of the configuration for which a run stands
+store_there : (m : Module) (r : Run) (c : Config) → Stands m r c → c.store ≡ store_of r.state
+store_there m r c s = ap (λ (d : Config). d.store) s.is
+
 stayed : (m : Module) (c : Config) (flow : Flow) (b : List Instr) (i : Instr) (w : Word) (next : ℕ) (old new : Run) → next ≡ old.place.at + 1 → Fits old → HasBody m old b → slice_get b old.place.at ≡ Some i → constant_word i ≡ Some w → Stands m old c → Puts flow w next old new → Advances m c flow old new
 stayed m c FlowSettles b i w next old new e f h there k s p =
     let n : next ≡ suc old.place.at = e ∙ add-one old.place.at in
     subst (λ r. Stands m r c) (sym (p.0 ∙ ap (at_place (with_stack old (put w old.state.operands))) n)) (put_in m old c b i w h there k s)
-stayed m c FlowFull b i w next old new e f h there k s p = λ n. full_at m (pages_of old.state.memory) old.state.operands.room (suc n) c (over m old c b i w f h there k p.0 s)
+stayed m c FlowFull b i w next old new e f h there k s p = λ n.
+    full_at m (pages_of old.state.memory) old.state.operands.room (suc n) c (over m old c b i w f h there k p.0 s)
+    ∙ ap (λ (x : TheStore). StackFull x) (store_there m old c s ∙ same_store old.state new.state p.1)
 stayed m c FlowGoes b i w next old new e f h there k s p = absurd p
 stayed m c FlowMoves b i w next old new e f h there k s p = absurd p
 stayed m c FlowFinishes b i w next old new e f h there k s p = absurd p
@@ -57,9 +63,9 @@ enough m c b i r f l h there k s = let w = settled_words m r c h.0 i h.1 (body_t
 carried_as : (m : Module) (js : List (List Jump)) (c : Config) (flow : Flow) (b : List Instr) (i : Instr) (next : ℕ) (old new : Run) (w : Option Word) (control : Bool) → next ≡ old.place.at + 1 → Fits old → height_of old.state.operands ≤ old.state.operands.most → HasBody m old b → slice_get b old.place.at ≡ Some i → constant_word i ≡ w → is_control i ≡ control → AllNested m → AllLead m js → Stands m old c → CarriesAs w control flow m js next i old new → Advances m c flow old new
 carried_as m js c flow b i next old new (Some w) control e f l h there k x nests leads s p = stayed m c flow b i w next old new e f h there k s p
 carried_as m js c flow b i next old new None true e f l h there k x nests leads s p =
-    moved m c flow old new (enough m c b i old f l h there (not_constant i k) s) (control_moves m js (pages_of old.state.memory) next c flow h.0 i old new e nests leads h.1 (body_there m old b i h there) x s p)
+    moved m c flow old new (enough m c b i old f l h there (not_constant i k) s) (store_there m old c s) (control_moves m js (pages_of old.state.memory) next c flow h.0 i old new e nests leads h.1 (body_there m old b i h there) x s p)
 carried_as m js c flow b i next old new None false e f l h there k x nests leads s p =
-    moved m c flow old new (enough m c b i old f l h there (not_constant i k) s) (straight_moves m next c flow h.0 i old new e h.1 (body_there m old b i h there) x (not_constant i k) s p)
+    moved m c flow old new (enough m c b i old f l h there (not_constant i k) s) (store_there m old c s) (straight_moves m next c flow h.0 i old new e l h.1 (body_there m old b i h there) x (not_constant i k) s p)
 
 pub carried : (m : Module) (js : List (List Jump)) (c : Config) (flow : Flow) (b : List Instr) (i : Instr) (next : ℕ) (old new : Run) → next ≡ old.place.at + 1 → Fits old → height_of old.state.operands ≤ old.state.operands.most → HasBody m old b → slice_get b old.place.at ≡ Some i → AllNested m → AllLead m js → Stands m old c → Carries flow m js next i old new → Advances m c flow old new
 carried m js c flow b i next old new e f l h there nests leads s p = carried_as m js c flow b i next old new (constant_word i) (is_control i) e f l h there refl refl nests leads s p

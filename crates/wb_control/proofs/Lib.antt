@@ -17,6 +17,7 @@ pub mod Controls
 pub mod Arguments
 -- the words of a configuration, and a step of a run
 pub mod Counting
+pub mod Kept
 pub mod Advanced
 -- constants that are put, and how a run begins
 pub mod Constants

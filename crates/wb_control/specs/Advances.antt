@@ -9,7 +9,7 @@ use Rattle.wb_syntax.specs.Syntax.{Code}
 use Rattle.wb_syntax.specs.Numbers.{unsigned}
 use Rattle.wb_syntax.specs.Execute.{Word, word, Config, Traps, NoRule, machine_step}
 use Rattle.wb_syntax.specs.Runs.{RunEnd, Trapped, StackFull, Running, Stuck, words_of, returned, before_step, runs}
-use Rattle.wb_state.specs.Stack.{put, IsOver}
+use Rattle.wb_state.specs.Stack.{put, height_of, IsOver}
 use Rattle.wb_plain.specs.Effects.{State, kind_of, SameStore, writes_store}
 use Rattle.wb_plain.specs.Follows.{store_of, pages_of, Keeps, step_of, move_to}
 use Rattle.wb_plain.specs.declared.outcome.Outcome.{Outcome}
@@ -91,7 +91,8 @@ Straightens FlowGoes i next old new =
     × ((m : Module) (c : Config) (rest : Code) → step_of m c rest i old.state ≡ move_to c rest new.state)
     × (writes_store i ≡ false → SameStore old.state new.state)
 Straightens FlowFull i next old new =
-    ((m : Module) (c : Config) (rest : Code) → (s : State) × (step_of m c rest i old.state ≡ move_to c rest s) × Keeps old.state s × (old.state.operands.room < words_in (in_state old s)))
+    ((m : Module) (c : Config) (rest : Code) → (s : State) × (step_of m c rest i old.state ≡ move_to c rest s) × Keeps old.state s × (old.state.operands.room < words_in (in_state old s))
+    × (height_of old.state.operands ≤ old.state.operands.most → SameStore old.state s))
     × SameStore old.state new.state × SameRooms old new
 Straightens (FlowTraps k) i next old new = ((m : Module) (c : Config) (rest : Code) → step_of m c rest i old.state ≡ Traps (kind_of k) (store_of old.state)) × SameStore old.state new.state × SameRooms old new
 Straightens FlowStuck i next old new = ((m : Module) (c : Config) (rest : Code) → step_of m c rest i old.state ≡ NoRule) × SameStore old.state new.state × SameRooms old new
@@ -119,10 +120,10 @@ abbrev pub Advances : Module → Config → Flow → (old new : Run) → Type 0
 Advances m c FlowSettles old new = Stands m new c
 Advances m c FlowGoes old new = StepsTo m c old new
 Advances m c FlowMoves old new = StepsTo m c old new
-Advances m c FlowFull old new = (n : ℕ) → runs_from m old (suc n) c ≡ StackFull
+Advances m c FlowFull old new = (n : ℕ) → runs_from m old (suc n) c ≡ StackFull (store_of new.state)
 Advances m c FlowFinishes old new = (n : ℕ) → runs_from m old (suc n) c ≡ returned (results_of new.result) (store_of new.state)
 Advances m c (FlowTraps k) old new = (n : ℕ) → runs_from m old (suc n) c ≡ Trapped (kind_of k) (store_of new.state)
-Advances m c FlowStuck old new = (n : ℕ) → runs_from m old (suc n) c ≡ Stuck
+Advances m c FlowStuck old new = (n : ℕ) → runs_from m old (suc n) c ≡ Stuck (store_of new.state)
 
 -- a run that goes on fits
 abbrev pub FitsOn : Flow → Run → Type 0
@@ -158,7 +159,7 @@ Answers _ b = b ≡ true
 -- with no step to come a run is still running where there is a step, and else stuck
 abbrev pub HasStep : Module → (room : ℕ) → Config → Bool → Type 0
 HasStep m room c true = before_step (machine_step m room c) c ≡ Running c
-HasStep m room c false = before_step (machine_step m room c) c ≡ Stuck
+HasStep m room c false = before_step (machine_step m room c) c ≡ Stuck c.store
 
 -- ---- the beginning
 

@@ -8,3 +8,4 @@ pub mod Each
 pub mod Ordered
 pub mod Holding
 pub mod Writable
+pub mod Validity

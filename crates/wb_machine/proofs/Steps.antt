@@ -6,7 +6,7 @@ use Rattle.wb_syntax.specs.Syntax.{Code}
 use Rattle.wb_syntax.specs.Nesting.{nested}
 use Rattle.wb_syntax.specs.Execute.{TheStore, Config, page, machine_step}
 use Rattle.wb_syntax.specs.Runs.{RunEnd, Trapped, Running, StackFull, Stuck, NoMain, Main, words_of, returned, before_step, runs, first_config, main_of, run_main}
-use Rattle.wb_plain.specs.Effects.{SameStore, kind_of}
+use Rattle.wb_plain.specs.Effects.{State, SameStore, kind_of}
 use Rattle.wb_plain.specs.declared.outcome.TrapKind.{TrapKind as TheKind}
 use Rattle.wb_plain.specs.declared.outcome.TrapKind.TheVariants.{Unreachable as OfUnreachable, DivideByZero as OfDivideByZero, Overflow as OfOverflow, OutOfBounds as OfOutOfBounds}
 use Rattle.wb_plain.specs.Follows.{store_of, pages_of, length_of}
@@ -25,20 +25,25 @@ use Rattle.wb_machine.specs.declared.ends.MachineEnd.TheVariants.{Trap as DoesTr
 
 -- ---- no step is left
 
-pub full_stop : (m : Module) (c : Config) (old mid : Run) → Settles m c false old mid → EndsAs (runs m (pages_of old.state.memory) old.state.operands.room 0 c) IsFull (store_of mid.state)
-full_stop m c old mid h = subst (λ r. EndsAs r IsFull (store_of mid.state)) (sym (full_at m (pages_of old.state.memory) old.state.operands.room 0 c h)) refl
+-- the store of the configuration for which a run stands, in a state that has kept it
+kept_store : (m : Module) (c : Config) (r : Run) (new : State) → Stands m r c → SameStore r.state new → store_of new ≡ c.store
+kept_store m c r new s kept = sym (same_store r.state new kept) ∙ sym (ap (λ (d : Config). d.store) s.is)
+
+pub full_stop : (start : TheStore) (m : Module) (c : Config) (old mid : Run) → Stands m old c → SameStore old.state mid.state → Settles m c false old mid → EndsAs start (runs m (pages_of old.state.memory) old.state.operands.room 0 c) IsFull (store_of mid.state)
+full_stop start m c old mid s kept h =
+    subst (λ r. EndsAs start r IsFull (store_of mid.state)) (sym (full_at m (pages_of old.state.memory) old.state.operands.room 0 c h)) (refl, kept_store m c old mid.state s kept)
 
 stopped : (m : Module) (c : Config) (old mid : Run) (end : RunEnd) → SameStore old.state mid.state → Settles m c true old mid → before_step (machine_step m (pages_of mid.state.memory) c) c ≡ end → runs m (pages_of old.state.memory) old.state.operands.room 0 c ≡ end
 stopped m c old mid end same h e =
     stop_at m (pages_of old.state.memory) old.state.operands.room c h.1 ∙ subst (λ p. before_step (machine_step m (pages_of p) c) c ≡ end) same.0 e
 
-pub limited : (m : Module) (c : Config) (old mid new : Run) → SameStore old.state mid.state → SameStore mid.state new.state → Settles m c true old mid → HasStep m (pages_of mid.state.memory) c true → EndsAs (runs m (pages_of old.state.memory) old.state.operands.room 0 c) IsLimited (store_of new.state)
-limited m c old mid new same kept h e =
-    let left : store_of new.state ≡ c.store = sym (same_store mid.state new.state kept) ∙ sym (ap (λ (d : Config). d.store) h.0.is) in
-    subst (λ r. EndsAs r IsLimited (store_of new.state)) (sym (stopped m c old mid (Running c) same h e)) (refl, left)
+pub limited : (start : TheStore) (m : Module) (c : Config) (old mid new : Run) → SameStore old.state mid.state → SameStore mid.state new.state → Settles m c true old mid → HasStep m (pages_of mid.state.memory) c true → EndsAs start (runs m (pages_of old.state.memory) old.state.operands.room 0 c) IsLimited (store_of new.state)
+limited start m c old mid new same kept h e =
+    subst (λ r. EndsAs start r IsLimited (store_of new.state)) (sym (stopped m c old mid (Running c) same h e)) (refl, kept_store m c mid new.state h.0 kept)
 
-pub stuck_stop : (m : Module) (c : Config) (old mid new : Run) → SameStore old.state mid.state → Settles m c true old mid → HasStep m (pages_of mid.state.memory) c false → EndsAs (runs m (pages_of old.state.memory) old.state.operands.room 0 c) IsStuck (store_of new.state)
-stuck_stop m c old mid new same h e = subst (λ r. EndsAs r IsStuck (store_of new.state)) (sym (stopped m c old mid Stuck same h e)) refl
+pub stuck_stop : (start : TheStore) (m : Module) (c : Config) (old mid new : Run) → SameStore old.state mid.state → SameStore mid.state new.state → Settles m c true old mid → HasStep m (pages_of mid.state.memory) c false → EndsAs start (runs m (pages_of old.state.memory) old.state.operands.room 0 c) IsStuck (store_of new.state)
+stuck_stop start m c old mid new same kept h e =
+    subst (λ r. EndsAs start r IsStuck (store_of new.state)) (sym (stopped m c old mid (Stuck c.store) same h e)) (refl, kept_store m c mid new.state h.0 kept)
 
 -- ---- a run
 
@@ -74,14 +79,14 @@ went_on m first r new limit left c l size room g s =
       rest = sym (at_first m first r n s.0 size room) ∙ sym (s.2 n) ∙ at_first m first r (suc n) d size room ∙ ap (λ k. runs m (pages_of first.state.memory) first.state.operands.room k d) (sym e) ∙ g.rest;
     }
 
-ended_on : (m : Module) (first r : Run) (limit left : ℕ) (c : Config) (end : RunEnd) (e : MachineEnd) (s : TheStore) → 0 < left → length_of r.state.memory ≡ length_of first.state.memory → SameRooms first r → (g : GoesOn m first limit left c r) → ((n : ℕ) → runs_from m r (suc n) g.config ≡ end) → EndsAs end e s → EndsAs (runs m (pages_of first.state.memory) first.state.operands.room limit c) e s
-ended_on m first r limit left c end e s l size room g h x =
+ended_on : (start : TheStore) (m : Module) (first r : Run) (limit left : ℕ) (c : Config) (end : RunEnd) (e : MachineEnd) (s : TheStore) → 0 < left → length_of r.state.memory ≡ length_of first.state.memory → SameRooms first r → (g : GoesOn m first limit left c r) → ((n : ℕ) → runs_from m r (suc n) g.config ≡ end) → EndsAs start end e s → EndsAs start (runs m (pages_of first.state.memory) first.state.operands.room limit c) e s
+ended_on start m first r limit left c end e s l size room g h x =
     let n = left - 1 in
     let k : left ≡ suc n = omega arith in
     let d = g.config in
     let all : runs m (pages_of first.state.memory) first.state.operands.room limit c ≡ end =
     sym g.rest ∙ ap (λ j. runs m (pages_of first.state.memory) first.state.operands.room j d) k ∙ sym (at_first m first r (suc n) d size room) ∙ h n in
-    subst (λ v. EndsAs v e s) (sym all) x
+    subst (λ v. EndsAs start v e s) (sym all) x
 
 -- the end by a trap
 trap_back : (k : TheKind) → trap_of (kind_of k) ≡ k
@@ -90,23 +95,23 @@ trap_back OfDivideByZero = refl
 trap_back OfOverflow = refl
 trap_back OfOutOfBounds = refl
 
-pub trapped_as : (k : TheKind) (s : TheStore) → EndsAs (Trapped (kind_of k) s) (DoesTrap k) s
-trapped_as k s = (sym (ap DoesTrap (trap_back k)), refl)
+pub trapped_as : (start : TheStore) (k : TheKind) (s : TheStore) → EndsAs start (Trapped (kind_of k) s) (DoesTrap k) s
+trapped_as start k s = (sym (ap DoesTrap (trap_back k)), refl)
 
-pub closed_on : (m : Module) (first r new : Run) (limit left : ℕ) (c : Config) (flow : Flow) (e : MachineEnd) → 0 < left → length_of r.state.memory ≡ length_of first.state.memory → SameRooms first r → (g : GoesOn m first limit left c r) → (flow ≡ FlowSettles → ⊥) → (flow ≡ FlowGoes → ⊥) → (flow ≡ FlowMoves → ⊥) → Advances m g.config flow r new → Closes flow (results_of new.result) (store_of new.state) e → EndsAs (runs m (pages_of first.state.memory) first.state.operands.room limit c) e (store_of new.state)
-closed_on m first r new limit left c FlowSettles e l size room g settles goes moves a x = absurd (settles refl)
-closed_on m first r new limit left c FlowGoes e l size room g settles goes moves a x = absurd (goes refl)
-closed_on m first r new limit left c FlowMoves e l size room g settles goes moves a x = absurd (moves refl)
-closed_on m first r new limit left c FlowFull e l size room g settles goes moves a x = ended_on m first r limit left c StackFull e (store_of new.state) l size room g a x
-closed_on m first r new limit left c FlowFinishes e l size room g settles goes moves a x = ended_on m first r limit left c (returned (results_of new.result) (store_of new.state)) e (store_of new.state) l size room g a x
-closed_on m first r new limit left c (FlowTraps k) e l size room g settles goes moves a x = ended_on m first r limit left c (Trapped (kind_of k) (store_of new.state)) e (store_of new.state) l size room g a x
-closed_on m first r new limit left c FlowStuck e l size room g settles goes moves a x = ended_on m first r limit left c Stuck e (store_of new.state) l size room g a x
+pub closed_on : (start : TheStore) (m : Module) (first r new : Run) (limit left : ℕ) (c : Config) (flow : Flow) (e : MachineEnd) → 0 < left → length_of r.state.memory ≡ length_of first.state.memory → SameRooms first r → (g : GoesOn m first limit left c r) → (flow ≡ FlowSettles → ⊥) → (flow ≡ FlowGoes → ⊥) → (flow ≡ FlowMoves → ⊥) → Advances m g.config flow r new → Closes start flow (results_of new.result) (store_of new.state) e → EndsAs start (runs m (pages_of first.state.memory) first.state.operands.room limit c) e (store_of new.state)
+closed_on start m first r new limit left c FlowSettles e l size room g settles goes moves a x = absurd (settles refl)
+closed_on start m first r new limit left c FlowGoes e l size room g settles goes moves a x = absurd (goes refl)
+closed_on start m first r new limit left c FlowMoves e l size room g settles goes moves a x = absurd (moves refl)
+closed_on start m first r new limit left c FlowFull e l size room g settles goes moves a x = ended_on start m first r limit left c (StackFull (store_of new.state)) e (store_of new.state) l size room g a x
+closed_on start m first r new limit left c FlowFinishes e l size room g settles goes moves a x = ended_on start m first r limit left c (returned (results_of new.result) (store_of new.state)) e (store_of new.state) l size room g a x
+closed_on start m first r new limit left c (FlowTraps k) e l size room g settles goes moves a x = ended_on start m first r limit left c (Trapped (kind_of k) (store_of new.state)) e (store_of new.state) l size room g a x
+closed_on start m first r new limit left c FlowStuck e l size room g settles goes moves a x = ended_on start m first r limit left c (Stuck (store_of new.state)) e (store_of new.state) l size room g a x
 
-pub ended_at : (m : Module) (first r new : Run) (limit left : ℕ) (c : Config) (e : MachineEnd) → left ≡ 0 → length_of r.state.memory ≡ length_of first.state.memory → SameRooms first r → (g : GoesOn m first limit left c r) → EndsAs (runs m (pages_of r.state.memory) r.state.operands.room 0 g.config) e (store_of new.state) → EndsAs (runs m (pages_of first.state.memory) first.state.operands.room limit c) e (store_of new.state)
-ended_at m first r new limit left c e z size room g h =
+pub ended_at : (start : TheStore) (m : Module) (first r new : Run) (limit left : ℕ) (c : Config) (e : MachineEnd) → left ≡ 0 → length_of r.state.memory ≡ length_of first.state.memory → SameRooms first r → (g : GoesOn m first limit left c r) → EndsAs start (runs m (pages_of r.state.memory) r.state.operands.room 0 g.config) e (store_of new.state) → EndsAs start (runs m (pages_of first.state.memory) first.state.operands.room limit c) e (store_of new.state)
+ended_at start m first r new limit left c e z size room g h =
     let all : runs m (pages_of r.state.memory) r.state.operands.room 0 g.config ≡ runs m (pages_of first.state.memory) first.state.operands.room limit c =
     at_first m first r 0 g.config size room ∙ ap (λ j. runs m (pages_of first.state.memory) first.state.operands.room j g.config) (sym z) ∙ g.rest in
-    subst (λ x. EndsAs x e (store_of new.state)) all h
+    subst (λ x. EndsAs start x e (store_of new.state)) all h
 
 -- ---- main
 
@@ -114,26 +119,26 @@ run_main_is : (m : Module) (room : ℕ) (s : TheStore) (args : List ℤ) (words 
 run_main_is m room s args words n main body e h =
     let F : Option Main → RunEnd = λ o. elim o [
       | None ↦ NoMain
-      | Some x ↦ elim (nested x.func.body) [ None ↦ Stuck | Some b ↦ runs m room words n (first_config m room x args s b) ]
+      | Some x ↦ elim (nested x.func.body) [ None ↦ Stuck s | Some b ↦ runs m room words n (first_config m room x args s b) ]
     ] in
-    let G : Option Code → RunEnd = λ o. elim o [ None ↦ Stuck | Some b ↦ runs m room words n (first_config m room main args s b) ] in
+    let G : Option Code → RunEnd = λ o. elim o [ None ↦ Stuck s | Some b ↦ runs m room words n (first_config m room main args s b) ] in
     ap F e ∙ ap G h
 
-pub no_main : (m : Module) (room : ℕ) (s left : TheStore) (args : List ℤ) (words n : ℕ) → main_of m ≡ None → EndsAs (run_main m room s args words n) HasNoMain left
-no_main m room s left args words n e =
+pub no_main : (m : Module) (room : ℕ) (s : TheStore) (args : List ℤ) (words n : ℕ) → main_of m ≡ None → EndsAs s (run_main m room s args words n) HasNoMain s
+no_main m room s args words n e =
     let F : Option Main → RunEnd = λ o. elim o [
       | None ↦ NoMain
-      | Some x ↦ elim (nested x.func.body) [ None ↦ Stuck | Some b ↦ runs m room words n (first_config m room x args s b) ]
+      | Some x ↦ elim (nested x.func.body) [ None ↦ Stuck s | Some b ↦ runs m room words n (first_config m room x args s b) ]
     ] in
-    subst (λ r. EndsAs r HasNoMain left) (sym (ap F e)) refl
+    subst (λ r. EndsAs s r HasNoMain s) (sym (ap F e)) (refl, refl)
 
-pub no_room : (m : Module) (room : ℕ) (s left : TheStore) (args : List ℤ) (words n : ℕ) (main : Main) (body : Code) → main_of m ≡ Some main → nested main.func.body ≡ Some body → words < words_of (first_config m 0 main args s body) → EndsAs (run_main m room s args words n) IsFull left
-no_room m room s left args words n main body e h l =
-    subst (λ r. EndsAs r IsFull left) (sym (run_main_is m room s args words n main body e h ∙ full_at m room words n (first_config m 0 main args s body) l)) refl
+pub no_room : (m : Module) (room : ℕ) (s left : TheStore) (args : List ℤ) (words n : ℕ) (main : Main) (body : Code) → main_of m ≡ Some main → nested main.func.body ≡ Some body → words < words_of (first_config m 0 main args s body) → left ≡ s → EndsAs s (run_main m room s args words n) IsFull left
+no_room m room s left args words n main body e h l k =
+    subst (λ r. EndsAs s r IsFull left) (sym (run_main_is m room s args words n main body e h ∙ full_at m room words n (first_config m 0 main args s body) l)) (refl, k)
 
-pub whole_run : (m : Module) (room : ℕ) (s left : TheStore) (args : List ℤ) (words n : ℕ) (main : Main) (body : Code) (end : MachineEnd) → main_of m ≡ Some main → nested main.func.body ≡ Some body → EndsAs (runs m room words n (first_config m 0 main args s body)) end left → EndsAs (run_main m room s args words n) end left
-whole_run m room s left args words n main body end e h r = subst (λ x. EndsAs x end left) (sym (run_main_is m room s args words n main body e h)) r
+pub whole_run : (m : Module) (room : ℕ) (s left : TheStore) (args : List ℤ) (words n : ℕ) (main : Main) (body : Code) (end : MachineEnd) → main_of m ≡ Some main → nested main.func.body ≡ Some body → EndsAs s (runs m room words n (first_config m 0 main args s body)) end left → EndsAs s (run_main m room s args words n) end left
+whole_run m room s left args words n main body end e h r = subst (λ x. EndsAs s x end left) (sym (run_main_is m room s args words n main body e h)) r
 
 -- a run at the sizes before it began
-pub as_begun : (m : Module) (old mid : Run) (n : ℕ) (c : Config) (e : MachineEnd) (left : TheStore) → SameStore old.state mid.state → SameRooms old mid → EndsAs (runs m (pages_of mid.state.memory) mid.state.operands.room n c) e left → EndsAs (runs m (pages_of old.state.memory) old.state.operands.room n c) e left
-as_begun m old mid n c e left same room h = subst (λ r. EndsAs r e left) (at_first m old mid n c (ap length_of same.0) room) h
+pub as_begun : (start : TheStore) (m : Module) (old mid : Run) (n : ℕ) (c : Config) (e : MachineEnd) (left : TheStore) → SameStore old.state mid.state → SameRooms old mid → EndsAs start (runs m (pages_of mid.state.memory) mid.state.operands.room n c) e left → EndsAs start (runs m (pages_of old.state.memory) old.state.operands.room n c) e left
+as_begun start m old mid n c e left same room h = subst (λ r. EndsAs start r e left) (at_first m old mid n c (ap length_of same.0) room) h

@@ -14,23 +14,23 @@ use Rattle.wb_machine.specs.Ends.{EndsAs}
 use Rattle.wb_machine.specs.Inside.{IsFor, HasFewParameters}
 use Rattle.wb_machine.specs.declared.ends.MachineEnd.{MachineEnd}
 
-ends_prop : (r : RunEnd) (e : MachineEnd) (s : TheStore) → IsProp (EndsAs r e s)
-ends_prop (Returned z t) e s = hlevel props
-ends_prop (Trapped k t) e s = hlevel props
-ends_prop StackFull e s = hlevel props
-ends_prop Stuck e s = hlevel props
-ends_prop (Running c) e s = hlevel props
-ends_prop NoMain e s = hlevel props
+ends_prop : (first : TheStore) (r : RunEnd) (e : MachineEnd) (s : TheStore) → IsProp (EndsAs first r e s)
+ends_prop first (Returned z t) e s = hlevel props
+ends_prop first (Trapped k t) e s = hlevel props
+ends_prop first (StackFull t) e s = hlevel props
+ends_prop first (Stuck t) e s = hlevel props
+ends_prop first (Running c) e s = hlevel props
+ends_prop first NoMain e s = hlevel props
 
 -- the run of a machine, by its module and its jumps as they are read
-pub ends_at : (m n : Module) (js ks : List (List Jump)) (r : Run) (words : ℕ) (args : List ℤ) (limit : ℕ) (e : MachineEnd) (left : TheStore) → n ≡ m → ks ≡ js → IsFor m words r → AllNested m → ∥ AllLead m js ∥₁ → (AllNested n → AllLead n ks → EndsAs (run_main n (pages_of r.state.memory) (store_of r.state) args r.state.operands.room limit) e left) → EndsAs (run_main m (fixed_room m) (store_of r.state) args words limit) e left
+pub ends_at : (m n : Module) (js ks : List (List Jump)) (r : Run) (words : ℕ) (args : List ℤ) (limit : ℕ) (e : MachineEnd) (left : TheStore) → n ≡ m → ks ≡ js → IsFor m words r → AllNested m → ∥ AllLead m js ∥₁ → (AllNested n → AllLead n ks → EndsAs (store_of r.state) (run_main n (pages_of r.state.memory) (store_of r.state) args r.state.operands.room limit) e left) → EndsAs (store_of r.state) (run_main m (fixed_room m) (store_of r.state) args words limit) e left
 ends_at m n js ks r words args limit e left same alike f nests leads h =
     let s = store_of r.state in
-    ∥∥₁_elim leads (ends_prop (run_main m (fixed_room m) s args words limit) e left) (λ l.
+    ∥∥₁_elim leads (ends_prop s (run_main m (fixed_room m) s args words limit) e left) (λ l.
     let q = h (subst AllNested (sym same) nests) (subst (λ x. AllLead x ks) (sym same) (subst (AllLead m) (sym alike) l)) in
-    let a = subst (λ (x : Module). EndsAs (run_main x (pages_of r.state.memory) s args r.state.operands.room limit) e left) same q in
-    let b = subst (λ (p : ℕ). EndsAs (run_main m p s args r.state.operands.room limit) e left) f.pages a in
-    subst (λ (w : ℕ). EndsAs (run_main m (fixed_room m) s args w limit) e left) f.room b)
+    let a = subst (λ (x : Module). EndsAs s (run_main x (pages_of r.state.memory) s args r.state.operands.room limit) e left) same q in
+    let b = subst (λ (p : ℕ). EndsAs s (run_main m p s args r.state.operands.room limit) e left) f.pages a in
+    subst (λ (w : ℕ). EndsAs s (run_main m (fixed_room m) s args w limit) e left) f.room b)
 
 pub few_is : (m n : Module) (k : ℕ) → n ≡ m → Some k ≡ main_arity n → ∥ HasFewParameters m ∥₁ → k < 2 ^ 32
 few_is m n k same e h = ∥∥₁_elim h (hlevel props) (λ f. subst (λ (o : Option ℕ). IfSome o (λ x. x < 2 ^ 32)) (sym (e ∙ ap main_arity same)) f)

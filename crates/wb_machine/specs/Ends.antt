@@ -14,11 +14,11 @@ trap_of DivideByZero = OfDivideByZero
 trap_of Overflow = OfOverflow
 trap_of OutOfBounds = OfOutOfBounds
 
--- the end of a run is answered so, and leaves this store
-abbrev pub EndsAs : RunEnd → MachineEnd → (left : TheStore) → Type 0
-EndsAs (Returned z s) e left = (e ≡ DoesReturn z) × (left ≡ s)
-EndsAs (Trapped k s) e left = (e ≡ DoesTrap (trap_of k)) × (left ≡ s)
-EndsAs StackFull e left = e ≡ IsFull
-EndsAs Stuck e left = e ≡ IsStuck
-EndsAs (Running c) e left = (e ≡ IsLimited) × (left ≡ c.store)
-EndsAs NoMain e left = e ≡ HasNoMain
+-- the end of a run that began with a store is answered so, and leaves this store
+abbrev pub EndsAs : (first : TheStore) → RunEnd → MachineEnd → (left : TheStore) → Type 0
+EndsAs first (Returned z s) e left = (e ≡ DoesReturn z) × (left ≡ s)
+EndsAs first (Trapped k s) e left = (e ≡ DoesTrap (trap_of k)) × (left ≡ s)
+EndsAs first (StackFull s) e left = (e ≡ IsFull) × (left ≡ s)
+EndsAs first (Stuck s) e left = (e ≡ IsStuck) × (left ≡ s)
+EndsAs first (Running c) e left = (e ≡ IsLimited) × (left ≡ c.store)
+EndsAs first NoMain e left = (e ≡ HasNoMain) × (left ≡ first)

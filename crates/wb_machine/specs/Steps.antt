@@ -17,10 +17,10 @@ abbrev pub FindsBody : Module → ℕ → Option (Bor (List Instr)) → Type 0
 FindsBody m x None = slice_get m.funcs x ≡ None
 FindsBody m x (Some b) = (f : Func) × (slice_get m.funcs x ≡ Some f) × (f.body ≡ b.now)
 
--- the run that ends so, with these results where its first frame was left, is answered so
-abbrev pub Closes : Flow → (results : List Word) → (left : TheStore) → MachineEnd → Type 0
-Closes Full ws s e = EndsAs StackFull e s
-Closes Finishes ws s e = EndsAs (returned ws s) e s
-Closes (Traps k) ws s e = EndsAs (Trapped (kind_of k) s) e s
-Closes IsStuck ws s e = EndsAs Stuck e s
-Closes _ ws s e = Unit {0}
+-- the run that began with a store and ends so, with these results where its first frame was left, is answered so
+abbrev pub Closes : (first : TheStore) → Flow → (results : List Word) → (left : TheStore) → MachineEnd → Type 0
+Closes first Full ws s e = EndsAs first (StackFull s) e s
+Closes first Finishes ws s e = EndsAs first (returned ws s) e s
+Closes first (Traps k) ws s e = EndsAs first (Trapped (kind_of k) s) e s
+Closes first IsStuck ws s e = EndsAs first (Stuck s) e s
+Closes first _ ws s e = Unit {0}

@@ -19,7 +19,7 @@ use wb_syntax::{Instr, Module};
 
 /// The end of a run whose first frame is left with this result.
 fn returned(word: Option<Word>) -> MachineEnd
-    ensures { (s : TheStore) → EndsAs (returned (results_of word) s) result s }
+    ensures { (first s : TheStore) → EndsAs first (returned (results_of word) s) result s }
 {
     match word {
         None => MachineEnd::Stuck,
@@ -32,7 +32,7 @@ fn returned(word: Option<Word>) -> MachineEnd
 #[cold]
 #[inline(never)]
 fn end_of(flow: Flow, word: Option<Word>) -> MachineEnd
-    ensures { (s : TheStore) → Closes flow (results_of word) s result }
+    ensures { (first s : TheStore) → Closes first flow (results_of word) s result }
 {
     match flow {
         Flow::Full => MachineEnd::StackFull,
@@ -45,7 +45,7 @@ fn end_of(flow: Flow, word: Option<Word>) -> MachineEnd
 /// How a run ends that may make no step more.
 fn stop(run: &mut Run, m: &Module, jumps: &[Items<Jump>]) -> MachineEnd
     requires { Fits run.old }
-    ensures ends { (c : Config) → AllNested m.now → AllLead m.now jumps.now → Stands m.now run.old c → EndsAs (runs m.now (pages_of run.old.state.memory) run.old.state.operands.room 0 c) result (store_of run.new.state) }
+    ensures ends { (first : TheStore) (c : Config) → AllNested m.now → AllLead m.now jumps.now → Stands m.now run.old c → EndsAs first (runs m.now (pages_of run.old.state.memory) run.old.state.operands.room 0 c) result (store_of run.new.state) }
     ensures size { length_of run.new.state.memory ≡ length_of run.old.state.memory }
     ensures room { SameRooms run.old run.new }
 {
@@ -72,7 +72,7 @@ fn body_of(m: &Module, func: usize) -> Option<&[Instr]>
 /// Makes at most so many steps, and says how the run ends.
 fn steps(run: &mut Run, m: &Module, jumps: &[Items<Jump>], limit: u64) -> MachineEnd
     requires { Fits run.old }
-    ensures ends { (c : Config) → AllNested m.now → AllLead m.now jumps.now → Stands m.now run.old c → EndsAs (runs m.now (pages_of run.old.state.memory) run.old.state.operands.room limit c) result (store_of run.new.state) }
+    ensures ends { (first : TheStore) (c : Config) → AllNested m.now → AllLead m.now jumps.now → Stands m.now run.old c → EndsAs first (runs m.now (pages_of run.old.state.memory) run.old.state.operands.room limit c) result (store_of run.new.state) }
     ensures size { length_of run.new.state.memory ≡ length_of run.old.state.memory }
     ensures room { SameRooms run.old run.new }
 {
@@ -106,7 +106,7 @@ pub(crate) fn call(
     limit: u64,
 ) -> MachineEnd
     requires { IsRoomy run.old }
-    ensures ends { AllNested m.now → AllLead m.now jumps.now → EndsAs (run_main m.now (pages_of run.old.state.memory) (store_of run.old.state) args.now run.old.state.operands.room limit) result (store_of run.new.state) }
+    ensures ends { AllNested m.now → AllLead m.now jumps.now → EndsAs (store_of run.old.state) (run_main m.now (pages_of run.old.state.memory) (store_of run.old.state) args.now run.old.state.operands.room limit) result (store_of run.new.state) }
     ensures size { length_of run.new.state.memory ≡ length_of run.old.state.memory }
     ensures room { SameRooms run.old run.new }
 {

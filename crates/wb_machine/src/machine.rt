@@ -131,7 +131,7 @@ impl Machine {
     /// Begins anew on memory and globals as they stand, and leaves them as the run does. Takes no memory.
     pub fn call_main(&mut self, args: &[i64], limit: u64) -> MachineEnd
         requires arity { IsCalledWith (main_arity self.old.module_) (length args.now) }
-        ensures ends { EndsAs (run_main self.old.module_ (fixed_room self.old.module_) self.old.store args.now self.old.words limit) result self.new.store }
+        ensures ends { EndsAs self.old.store (run_main self.old.module_ (fixed_room self.old.module_) self.old.store args.now self.old.words limit) result self.new.store }
         ensures same { self.new.module_ ≡ self.old.module_ }
         ensures words { self.new.words ≡ self.old.words }
     {

@@ -4,3 +4,5 @@ pub mod Opcodes
 pub mod Meaning
 -- what is left of memory and globals, and whether there is an effect
 pub mod Writing
+-- what leaves more words than there may be
+pub mod Overfull

@@ -9,10 +9,10 @@ use Rattle.wb_syntax.specs.Table.{Row, Loads, Stores, Takes1, Takes2, row_at}
 use Rattle.wb_syntax.specs.Numbers.{Numeric, Yields, ByZero, TooLarge, unary_of, binary_of}
 use Rattle.wb_syntax.specs.Execute.{Word, word, Config, Move, Traps as Trapped, NoRule, OutOfBounds, same_type, pop, pop_any, when, where_some, number_of, bytes_of, overwrite, extended, page, goes_at, gives, run_unary, run_binary, set_local, set_global, run_load, run_store, with_memory, grow}
 use Rattle.wb_state.specs.Words.{holds, replaced}
-use Rattle.wb_state.specs.Stack.{Stack, Taken, taken, take_from, take_word, with_above}
+use Rattle.wb_state.specs.Stack.{Stack, Taken, taken, take_from, take_word, with_above, height_of, IsOver}
 use Rattle.wb_plain.specs.Syntax.{NumType, I32, Instr, Unreachable, Nop, Br, BrIf, BrTable, Return, Call, Drop, Select, LocalGet, LocalSet, LocalTee, GlobalGet, GlobalSet, Load, Store, MemorySize, MemoryGrow, I32Const, I64Const, Unary, Binary, Module}
 use Rattle.wb_plain.specs.Rows.{Operation, Loading, Storing, unary_types, binary_types, load_types, store_types}
-use Rattle.wb_plain.specs.Effects.{State, Effect, Leaves, Trapping, Lost, with_operands, yields, unary_taken, unary_typed, binary_second, binary_first, binary_typed, drop_from, select_one, select_from, select_taken, get, set_locals, local_set, local_tee, set_globals, global_set, load_read, load_taken, load_in, load_typed, store_written, store_based, store_taken, store_in, store_typed, size_in, grown, grow_taken, grow_in, effect, IsOverfull, Ends}
+use Rattle.wb_plain.specs.Effects.{State, Effect, Leaves, Trapping, Lost, with_operands, yields, unary_taken, unary_typed, binary_second, binary_first, binary_typed, drop_from, select_one, select_from, select_taken, get, set_locals, local_set, local_tee, set_globals, global_set, load_read, load_taken, load_in, load_typed, store_written, store_based, store_taken, store_in, store_typed, size_in, grown, grow_taken, grow_in, effect, SameStore, IsOverfull, Ends}
 use Rattle.wb_plain.specs.Follows.{IsStraight, store_of, showing, pages_of, length_of, step_of, move_to, GoesOver, Follows, Keeps, KeepsWhereItGoes}
 use Rattle.wb_plain.specs.declared.outcome.Outcome.{Outcome}
 use Rattle.wb_plain.specs.declared.outcome.Outcome.TheVariants.{Goes, Full, Traps, Stuck}
@@ -260,16 +260,21 @@ kept s i h = (means no_module no_config Nothing s i h).1
 
 -- ---- what a call answers
 
-overfull : (c : Config) (rest : Code) (s : State) (e : Effect) → KeptBy s e → IsOverfull e → GoesOver c rest (as_move c rest s e) s
-overfull c rest s (Leaves t) k h = (t, refl, h, k)
-overfull c rest s (Trapping x) k h = absurd h
-overfull c rest s Lost k h = absurd h
+-- an effect that leaves more words than there may be, where there were not more before, keeps the store
+abbrev pub OverSpares : State → Effect → Type 0
+OverSpares s (Leaves t) = IsOver t.operands → height_of s.operands ≤ s.operands.most → SameStore s t
+OverSpares s _ = Unit {0}
 
-pub follows_is : (r : Outcome) (c : Config) (rest : Code) (move : Move) (e : Effect) (old new : State) → Means c rest old move e → Ends r e old new → Follows r c rest move old new
-follows_is Goes c rest move e old new m h = m.0 ∙ ap (as_move c rest old) h
-follows_is Full c rest move e old new m h = (subst (λ v. GoesOver c rest v old) (sym m.0) (overfull c rest old e m.1 h.0), h.1)
-follows_is (Traps k) c rest move e old new m h = (m.0 ∙ ap (as_move c rest old) h.0, h.1)
-follows_is Stuck c rest move e old new m h = (m.0 ∙ ap (as_move c rest old) h.0, h.1)
+overfull : (c : Config) (rest : Code) (s : State) (e : Effect) → KeptBy s e → OverSpares s e → IsOverfull e → GoesOver c rest (as_move c rest s e) s
+overfull c rest s (Leaves t) k o h = (t, refl, h, k, o h)
+overfull c rest s (Trapping x) k o h = absurd h
+overfull c rest s Lost k o h = absurd h
+
+pub follows_is : (r : Outcome) (c : Config) (rest : Code) (move : Move) (e : Effect) (old new : State) → Means c rest old move e → OverSpares old e → Ends r e old new → Follows r c rest move old new
+follows_is Goes c rest move e old new m o h = m.0 ∙ ap (as_move c rest old) h
+follows_is Full c rest move e old new m o h = (subst (λ v. GoesOver c rest v old) (sym m.0) (overfull c rest old e m.1 o h.0), h.1)
+follows_is (Traps k) c rest move e old new m o h = (m.0 ∙ ap (as_move c rest old) h.0, h.1)
+follows_is Stuck c rest move e old new m o h = (m.0 ∙ ap (as_move c rest old) h.0, h.1)
 
 pub keeps_is : (r : Outcome) (e : Effect) (old new : State) → KeptBy old e → Ends r e old new → KeepsWhereItGoes r old new
 keeps_is Goes e old new k h = subst (KeptBy old) h k

@@ -1,9 +1,9 @@
 -- How what an instruction does to a state is a step of the definition of execution.
-use Rattle.std.specs.Prelude.{◌≡◌, ℕ, ◌/◌, Bool, true, false, List, length, Option, Some, None}
+use Rattle.std.specs.Prelude.{◌≡◌, ℕ, ◌/◌, ◌≤◌, Bool, true, false, List, length, Option, Some, None}
 use Rattle.wb_syntax.specs.Syntax.{Code}
 use Rattle.wb_plain.specs.Syntax.{Instr, Br, BrIf, BrTable, Return, Call, Module}
 use Rattle.wb_syntax.specs.Execute.{TheStore, Config, Move, Traps as Trapped, NoRule, page, goes_at, plain}
-use Rattle.wb_state.specs.Stack.{IsOver}
+use Rattle.wb_state.specs.Stack.{height_of, IsOver}
 use Rattle.wb_plain.specs.Effects.{State, kind_of, SameStore}
 use Rattle.wb_plain.specs.declared.outcome.Outcome.{Outcome}
 use Rattle.wb_plain.specs.declared.outcome.Outcome.TheVariants.{Goes, Full, Traps, Stuck}
@@ -55,9 +55,11 @@ pub record Keeps (old new : State) : Type 0 where
   pub locals : length new.locals.current ≡ length old.locals.current
   pub size : length_of new.memory ≡ length_of old.memory
 
--- the step is to a state with more words than there may be, which keeps the rest
+-- the step is to a state with more words than there may be, which keeps the rest; memory and globals too, where there
+-- were not more words before it
 abbrev pub GoesOver : Config → Code → Move → (old : State) → Type 0
-GoesOver c rest move old = (s : State) × (move ≡ move_to c rest s) × IsOver s.operands × Keeps old s
+GoesOver c rest move old =
+    (s : State) × (move ≡ move_to c rest s) × IsOver s.operands × Keeps old s × (height_of old.operands ≤ old.operands.most → SameStore old s)
 
 -- a step is this one
 abbrev pub Follows : Outcome → Config → Code → Move → (old new : State) → Type 0

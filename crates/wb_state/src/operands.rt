@@ -1,6 +1,6 @@
 //! The operands of a run.
 
-ghost use Rattle.std.specs.Prelude.{◌≡◌, ◌+◌, ◌<◌, ◌≤◌, ◌^◌, length, IfOk, IfSome};
+ghost use Rattle.std.specs.Prelude.{◌≡◌, false, ◌+◌, ◌<◌, ◌≤◌, ◌^◌, length, IfOk, IfSome};
 ghost use Rattle.wb_syntax.specs.Numbers.{bits_of};
 ghost use Rattle.wb_state.specs.Words.{seen};
 ghost use Rattle.wb_state.specs.Stack.{empty, put, take_word, height_of, raised, cut, TakesAny, TakesTo, PutsTo, Reserves, AreArguments};
@@ -75,6 +75,7 @@ impl Operands {
     #[inline(always)]
     pub fn put(&mut self, word: Word) -> bool
         ensures puts { PutsTo (put (seen word) self.old) result self.new }
+        ensures same { result ≡ false → self.new ≡ self.old }
         ensures room { self.new.room ≡ self.old.room }
     {
         if self.words.len() == self.most {

@@ -8,6 +8,8 @@ pub mod Decoding
 pub mod Nests
 pub mod WellNested
 pub mod Typed
+-- typed code leaves what is below its operands
+pub mod Below
 -- more steps change nothing of a run that has ended
 pub mod Longer
 -- worked examples

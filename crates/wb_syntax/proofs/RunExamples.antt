@@ -15,7 +15,8 @@ unfolding no_data
 five_words = refl
 
 -- the stack is looked at before anything else, so also with no step to be made
-four_words : mach seven [] 4 0 ≡ StackFull
+four_words : mach seven [] 4 0 ≡ StackFull no_data
+unfolding no_data
 four_words = refl
 
 -- an end without its store and its state
@@ -29,9 +30,9 @@ data Answer : Type 0 where
 answer : RunEnd → Answer
 answer (Returned z s) = Gives z
 answer (Trapped kind s) = Traps kind
-answer StackFull = Full
+answer (StackFull s) = Full
 answer (Running c) = GoesOn
-answer Stuck = Other
+answer (Stuck s) = Other
 answer NoMain = Other
 
 -- a loop that branches to itself is still running after so many steps

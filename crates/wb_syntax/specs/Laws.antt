@@ -1,10 +1,10 @@
 -- Laws of the definitions.
 use Rattle.std.specs.Prelude.{◌≡◌, ℕ, ◌≤◌, List, [], ◌∷◌, ◌++◌, ◌↔◌, Some, ℤ}
-use Rattle.wb_syntax.specs.Syntax.{Module, Func, Instr, End, Code}
+use Rattle.wb_syntax.specs.Syntax.{NumType, Module, Func, Instr, End, Code}
 use Rattle.wb_syntax.specs.Grammar.{Grammar, Reads}
 use Rattle.wb_syntax.specs.Nesting.{flat, IsProper, IsWellNested, nested}
 use Rattle.wb_syntax.specs.Binary.{Encodes, decoded, IsModule}
-use Rattle.wb_syntax.specs.Typing.{IsTypedBody}
+use Rattle.wb_syntax.specs.Typing.{Context, Types, IsTypedBody}
 use Rattle.wb_syntax.specs.Execute.{Config, TheStore}
 use Rattle.wb_syntax.specs.Runs.{RunEnd, HasEnded, runs, run_main, mach}
 
@@ -32,6 +32,10 @@ WellNestedExactly = (body : List Instr) → IsWellNested body ↔ ((c : Code) ×
 -- a body that is typed has nested code, and it is the code that was typed
 abbrev pub TypedIsProper : Type 0
 TypedIsProper = (m : Module) (f : Func) (t : IsTypedBody m f) → IsProper t.code × (nested f.body ≡ Some t.code)
+
+-- code that has a type has it over any stack, and leaves what is below as it is (the standard, 3.3.6)
+abbrev pub StandsOnAny : Type 0
+StandsOnAny = (c : Context) (is : Code) (a b below : List NumType) → Types c is a b → Types c is (a ++ below) (b ++ below)
 
 -- more steps change nothing of a run that has ended
 abbrev pub RunsEndedStay : Type 0

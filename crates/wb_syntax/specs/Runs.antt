@@ -90,12 +90,12 @@ main_arity m = then_some (main_of m) (λ main. Some (length main.type.params))
 
 -- ---- runs
 
--- how a run ends, or that it has not ended within its steps
+-- how a run ends, with the store that it leaves, or that it has not ended within its steps
 pub data RunEnd : Type 0 where
   Returned : ℤ → TheStore → RunEnd
   Trapped : TrapKind → TheStore → RunEnd
-  StackFull : RunEnd
-  Stuck : RunEnd
+  StackFull : TheStore → RunEnd
+  Stuck : TheStore → RunEnd
   -- the step limit
   Running : Config → RunEnd
   NoMain : RunEnd
@@ -105,40 +105,50 @@ abbrev pub HasEnded : RunEnd → Type 0
 HasEnded (Running c) = ⊥
 HasEnded _ = Unit {0}
 
+-- a run has ended for want of words
+abbrev pub IsStackFull : RunEnd → Type 0
+IsStackFull (StackFull s) = Unit {0}
+IsStackFull _ = ⊥
+
+-- a run has ended in a state that is no end and has no step
+abbrev pub IsStuck : RunEnd → Type 0
+IsStuck (Stuck s) = Unit {0}
+IsStuck _ = ⊥
+
 -- the results of the first frame as an end: one word, read as signed
 abbrev pub returned : List Word → TheStore → RunEnd
 returned (w ∷ []) s = Returned (signed w.type w.bits) s
-returned _ s = Stuck
+returned _ s = Stuck s
 
--- the end after a step, by what the step leads to
-abbrev pub after_step : Move → (Config → RunEnd) → RunEnd
-after_step (Goes c) next = next c
-after_step (Finishes results s) next = returned results s
-after_step (Traps kind s) next = Trapped kind s
-after_step NoRule next = Stuck
+-- the end after a step from a state, by what the step leads to
+abbrev pub after_step : Move → Config → (Config → RunEnd) → RunEnd
+after_step (Goes d) c next = next d
+after_step (Finishes results s) c next = returned results s
+after_step (Traps kind s) c next = Trapped kind s
+after_step NoRule c next = Stuck c.store
 
 -- the end with no step to come: still running, but a state that has no step is stuck at once
 abbrev pub before_step : Move → Config → RunEnd
 before_step (Goes d) c = Running c
 before_step (Finishes results s) c = Running c
 before_step (Traps kind s) c = Running c
-before_step NoRule c = Stuck
+before_step NoRule c = Stuck c.store
 
 module _ (m : Module) (room : ℕ) where
   -- a run from this state with at most so many words and at most n steps: at each state the words are looked at first
   abbrev pub runs : (words n : ℕ) → Config → RunEnd
-  runs words zero c = elim (nat_lt words (words_of c)) [ true ↦ StackFull | false ↦ before_step (machine_step m room c) c ]
-  runs words (suc n) c = elim (nat_lt words (words_of c)) [ true ↦ StackFull | false ↦ after_step (machine_step m room c) (runs words n) ]
+  runs words zero c = elim (nat_lt words (words_of c)) [ true ↦ StackFull c.store | false ↦ before_step (machine_step m room c) c ]
+  runs words (suc n) c = elim (nat_lt words (words_of c)) [ true ↦ StackFull c.store | false ↦ after_step (machine_step m room c) c (runs words n) ]
 
   -- the first state: main in a frame of its own, with these arguments as its first locals
   abbrev pub first_config : Main → List ℤ → TheStore → Code → Config
   first_config main args s body = record { frame = frame_of main.func main.type (map (λ z. word I64 (unsigned I64 z)) args) body; callers = []; store = s }
 
-  -- a run of main on these arguments (4.5.5), from this store
+  -- a run of main on these arguments (4.5.5), from this store, which stays where nothing is run
   abbrev pub run_main : TheStore → List ℤ → (words n : ℕ) → RunEnd
   run_main s args words n = elim (main_of m) [
     | None ↦ NoMain
-    | Some main ↦ elim (nested main.func.body) [ None ↦ Stuck | Some body ↦ runs words n (first_config main args s body) ]
+    | Some main ↦ elim (nested main.func.body) [ None ↦ Stuck s | Some body ↦ runs words n (first_config main args s body) ]
   ]
 
 -- the first run of a module whose memory never grows

@@ -6,6 +6,7 @@ ghost use Rattle.wb_syntax.specs.Laws.{
   NestedExactly,
   WellNestedExactly,
   TypedIsProper,
+  StandsOnAny,
   RunsEndedStay,
   MainEndedStays,
   MachEndedStays,
@@ -34,6 +35,11 @@ pub fn well_nested_exactly()
 /// Code by which a body is typed is proper, and is the nested code of that body.
 pub fn typed_is_proper()
     ensures { TypedIsProper }
+{}
+
+/// Code that has a type has it over any stack, and leaves what is below as it is.
+pub fn stands_on_any()
+    ensures { StandsOnAny }
 {}
 
 /// A run that has ended ends the same way however many more steps it may make.

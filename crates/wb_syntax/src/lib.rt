@@ -27,6 +27,7 @@
 //! - [`nested_exactly`]: a body and its nested code determine each other.
 //! - [`well_nested_exactly`]: the bodies that the binary format has are those that have nested code.
 //! - [`typed_is_proper`]: the code by which a body is typed is its nested code.
+//! - [`stands_on_any`]: typed code has its type over any stack, and leaves what is below as it is.
 //! - [`ended_stays`]: more steps change nothing of a run that has ended.
 //!
 //! `proofs/` has the proofs of the laws, and worked examples: bytes that are read or refused (`ReadExamples`), modules
@@ -38,7 +39,8 @@ pub mod name;
 pub mod syntax;
 
 pub use laws::{
-    decoded_exactly, encodes_one, ended_stays, nested_exactly, typed_is_proper, well_nested_exactly,
+    decoded_exactly, encodes_one, ended_stays, nested_exactly, stands_on_any, typed_is_proper,
+    well_nested_exactly,
 };
 pub use name::Name;
 pub use syntax::{

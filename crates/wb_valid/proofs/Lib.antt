@@ -22,5 +22,4 @@ pub mod Scanning
 pub mod Kept
 pub mod Parts
 -- laws
-pub mod Below
 pub mod One

@@ -15,16 +15,14 @@
 //! | `Effects` | what an instruction that is no construct does to operands |
 //! | `Checking` | the constructs that are open, and where each instruction leads |
 //! | `Locals`, `Scans` | running sums of locals; parts of one kind |
-//! | `Laws` | the statements of the laws below |
+//! | `Laws` | the statements of the law below |
 //!
 //! `proofs/Fitting` shows that what is known of a stack is exact, `Plain` that effects are what the typing rules say,
 //! `Levels`, `Constructs` and `Rests` that the steps over a body lead to its end exactly where the body has a typing,
 //! and `Parts` that the parts add up to validity.
 //!
-//! Each law is the contract of a function that does nothing:
-//!
-//! - [`stands_on_any`]: typed code has its type over any stack, and leaves what is below as it is.
-//! - [`first_is_one`]: a module has at most one first part that is not valid, and a valid one none.
+//! [`first_is_one`] is a law, the contract of a function that does nothing: a module has at most one first part that is
+//! not valid, and a valid one none.
 #![tactic(auto)]
 
 mod applying;
@@ -41,6 +39,6 @@ mod rows;
 mod scans;
 pub mod valid;
 
-pub use laws::{first_is_one, stands_on_any};
+pub use laws::first_is_one;
 pub use part::{InvalidEnd, Part};
 pub use valid::{ValidModule, validate};

@@ -60,7 +60,7 @@ pub returns-in_default-body_of-clause-ends : goal.returns-in_default-body_of-cla
 returns-in_default-body_of-clause-ends c =
     let m = c.args.m.now in
     let v = c.loop-left.invariant in
-    λ d nests leads h.
+    λ start d nests leads h.
     let g = v.goes d nests leads h in
     let s = c.in-Moves.ensures.advances g.config nests leads g.stands in
     absurd (has_func m c.advance.new.run s.0 c.in_default-body_of.ensures s.1)
@@ -70,16 +70,16 @@ returns-in_default-advance-clause-ends c =
     let m = c.args.m.now in
     let v = c.loop-left.invariant in
     let new = c.advance.new.run in
-    λ d nests leads h.
+    λ start d nests leads h.
     let g = v.goes d nests leads h in
-    closed_on m c.args.run.now c.loop-left.run new c.args.limit c.loop-left.left d c.advance.result c.end_of.result c.loop-left-test.true v.size v.room g
-    c.in_default-advance.not-Settles c.in_default-advance.not-Goes c.in_default-advance.not-Moves (c.advance.ensures.advances g.config nests leads g.stands) (c.end_of.ensures (store_of new.state))
+    closed_on start m c.args.run.now c.loop-left.run new c.args.limit c.loop-left.left d c.advance.result c.end_of.result c.loop-left-test.true v.size v.room g
+    c.in_default-advance.not-Settles c.in_default-advance.not-Goes c.in_default-advance.not-Moves (c.advance.ensures.advances g.config nests leads g.stands) (c.end_of.ensures start (store_of new.state))
 
 pub returns-clause-ends : goal.returns-clause-ends
 returns-clause-ends c =
     let m = c.args.m.now in
     let v = c.loop-left.invariant in
     let none : c.loop-left.left ≡ 0 = omega (arith, c.loop-left-test.false) in
-    λ d nests leads h.
+    λ start d nests leads h.
     let g = v.goes d nests leads h in
-    ended_at m c.args.run.now c.loop-left.run c.stop.new.run c.args.limit c.loop-left.left d c.stop.result none v.size v.room g (c.stop.ensures.ends g.config nests leads g.stands)
+    ended_at start m c.args.run.now c.loop-left.run c.stop.new.run c.args.limit c.loop-left.left d c.stop.result none v.size v.room g (c.stop.ensures.ends start g.config nests leads g.stands)

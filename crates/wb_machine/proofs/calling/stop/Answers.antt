@@ -3,16 +3,16 @@ use Rattle.wb_machine.proofs.calling.stop.Goals as goal
 
 pub returns-then-not-settle-clause-ends : goal.returns-then-not-settle-clause-ends
 returns-then-not-settle-clause-ends c =
-    λ d nests leads s. full_stop c.args.m.now d c.args.run.now c.settle.new.run (c.if-not-settle.ensures.settles d s)
+    λ start d nests leads s. full_stop start c.args.m.now d c.args.run.now c.settle.new.run s c.settle.ensures.store (c.if-not-settle.ensures.settles d s)
 
 pub returns-then-has_step-clause-ends : goal.returns-then-has_step-clause-ends
 returns-then-has_step-clause-ends c =
-    λ d nests leads s.
+    λ start d nests leads s.
     let h = c.if-not-settle.ensures.settles d s in
-    limited c.args.m.now d c.args.run.now c.settle.new.run c.has_step.new.run c.settle.ensures.store c.has_step.ensures.store h (c.if-has_step.ensures.step d nests leads h.0)
+    limited start c.args.m.now d c.args.run.now c.settle.new.run c.has_step.new.run c.settle.ensures.store c.has_step.ensures.store h (c.if-has_step.ensures.step d nests leads h.0)
 
 pub returns-else-has_step-clause-ends : goal.returns-else-has_step-clause-ends
 returns-else-has_step-clause-ends c =
-    λ d nests leads s.
+    λ start d nests leads s.
     let h = c.if-not-settle.ensures.settles d s in
-    stuck_stop c.args.m.now d c.args.run.now c.settle.new.run c.has_step.new.run c.settle.ensures.store h (c.if-has_step.ensures.step d nests leads h.0)
+    stuck_stop start c.args.m.now d c.args.run.now c.settle.new.run c.has_step.new.run c.settle.ensures.store c.has_step.ensures.store h (c.if-has_step.ensures.step d nests leads h.0)
