@@ -1,8 +1,8 @@
 // Terms whose values, normal forms, steps and nests are known.
 use crate::building::{DATA, body_below, last_body, number, term_of, three};
 use crate::terms::FORMS;
-use cf_eval::{Budget, EvalEnd, Written, evaluate, is_closed, normalise, read_back};
-use cf_term::{Term, TermNode, same, size};
+use cf_eval::{Budget, EvalEnd, Written, evaluate, normalise, read_back};
+use cf_term::{Term, TermNode, is_closed, same, size};
 use cf_value::{Env, Value, ValueNode};
 use std::alloc::Global;
 use std::rc::Rc;
