@@ -7,11 +7,10 @@ use Rattle.cf_grammar.specs.Grammar.{rules, Takes, Among, Derives, Leads, start,
 use Rattle.cf_grammar.specs.Grammar as grammar
 use Rattle.cf_grammar.specs.Refusing.{excess, or_later, over}
 use Rattle.cf_grammar.specs.declared.classes.Class.{Class}
-use Rattle.cf_grammar.specs.declared.classes.Class.TheVariants as class
 use Rattle.cf_grammar.specs.declared.endings.Fault.{Fault}
 use Rattle.cf_grammar.specs.declared.phrases.Phrase.{Phrase}
 use Rattle.cf_grammar.specs.declared.phrases.Symbol.{Symbol}
-use Rattle.cf_grammar.specs.declared.phrases.Symbol.TheVariants.{Is as is, Phrase as a}
+use Rattle.cf_grammar.specs.declared.phrases.Symbol.TheVariants.{Phrase as a}
 use Rattle.cf_grammar.proofs.Reached.{one_choice}
 use Rattle.cf_syntax.proofs.Cases.{none_some, clash}
 use Rattle.cf_syntax.proofs.Closing.{closed, closed_behind, closed_opened, leads_phrase, leads_token, never_ends, right_of, some, some_opened}

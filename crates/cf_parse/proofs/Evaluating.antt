@@ -1,32 +1,28 @@
 -- The steps of a derivation evaluate to what stands at the tokens, and at each step the meanings are of the kinds that it asks for.
-use Rattle.std.proofs.Common.{◌≡◌, ◌∙◌, refl, ap, sym, subst, arith, ℕ, zero, suc, ◌+◌, ◌-◌, ◌<◌, Bool, true, false, List, [], ◌∷◌, ◌++◌, map, drop, length, Option, Some, None, slice_get}
+use Rattle.std.proofs.Common.{◌≡◌, ◌∙◌, refl, ap, sym, subst, arith, ℕ, zero, suc, Bool, true, List, [], ◌∷◌, ◌++◌, map, drop, length, Option, Some, None, slice_get}
 use Rattle.cf_base.specs.declared.at.At.{At}
-use Rattle.cf_lex.specs.declared.keywords.Keyword.{Keyword}
 use Rattle.cf_grammar.specs.Choosing.{numbered, side, which}
 use Rattle.cf_grammar.specs.Grammar.{rules, Takes, exact, any_name}
 use Rattle.cf_grammar.specs.Productions.{Follows, done, take, opened, at_number, production, productions}
 use Rattle.cf_grammar.specs.declared.classes.Class.{Class}
 use Rattle.cf_grammar.specs.declared.classes.Class.TheVariants as class
-use Rattle.cf_grammar.specs.declared.phrases.Phrase.{Phrase}
 use Rattle.cf_grammar.specs.declared.phrases.Symbol.{Symbol}
-use Rattle.cf_grammar.specs.declared.phrases.Symbol.TheVariants.{Is as is, AnyName as NAME, Phrase as a}
-use Rattle.cf_grammar.specs.declared.productions.Production.{Production}
+use Rattle.cf_grammar.specs.declared.phrases.Symbol.TheVariants.{Phrase as a}
 use Rattle.cf_grammar.specs.declared.productions.Production.TheVariants as by
 use Rattle.cf_grammar.specs.declared.productions.Step.{Step}
 use Rattle.cf_grammar.specs.declared.productions.Step.TheVariants as step
 use Rattle.cf_parse.proofs.Deriving.{filled, get_side}
-use Rattle.cf_parse.proofs.Fitting.{Right, acted, acting, mapped_there, matched, nothing_fits, numbered_there, optional, right}
-use Rattle.cf_syntax.proofs.Cases.{clash, none_some, some_inj}
+use Rattle.cf_parse.proofs.Fitting.{acted, acting, mapped_there, matched, nothing_fits, numbered_there, optional, right}
+use Rattle.cf_syntax.proofs.Cases.{some_inj}
 use Rattle.cf_parse.proofs.Steps.{ended, no_phrase, opened as opened_there, Opened, by_empty, by_side, Parted, parted}
 use Rattle.cf_parse.specs.Building.{Sound}
 use Rattle.cf_parse.specs.Evaluation.{action, arity, evaluated, first_token, firsts, reduced, next_at}
-use Rattle.cf_parse.specs.Kinds as kind
-use Rattle.cf_parse.specs.Kinds.{Kind, Fits, AllFit, end, next, Gives, a_token, a_name, a_whole, a_natlit, a_word, atoms_of, kind_of, of_atoms, of_symbol, params}
-use Rattle.cf_syntax.specs.Places.{place, front}
+use Rattle.cf_parse.specs.Kinds.{Kind, Fits, AllFit, end, next, a_token, a_name, a_whole, a_natlit, a_word, atoms_of, kind_of, of_atoms, of_symbol, params}
+use Rattle.cf_syntax.specs.Places.{place}
 use Rattle.cf_parse.specs.Meaning.{Action, Sem, actions, meaning, nothing, run}
 use Rattle.cf_parse.specs.Meaning as meant
 use Rattle.cf_syntax.specs.Numbers.{in_range}
-use Rattle.cf_parse.specs.Standing.{Stands, StandAll, token, empty, phrase, none, both, behind}
+use Rattle.cf_parse.specs.Standing.{Stands, StandAll, token, empty, phrase, none, both}
 use Rattle.cf_syntax.specs.Tokens.{Token, classes}
 
 abbrev class_or : Class → List Class → Class

@@ -1,5 +1,5 @@
 -- Each right side asks of the meanings of its symbols what its kind says, and gives a meaning of its phrase's kind.
-use Rattle.std.proofs.Common.{◌≡◌, ◌∙◌, refl, ap, sym, subst, ℕ, zero, suc, Bool, true, false, List, [], ◌∷◌, map, length, Option, Some, None, slice_get}
+use Rattle.std.proofs.Common.{◌≡◌, ◌∙◌, refl, ap, sym, subst, ℕ, zero, suc, true, false, List, [], ◌∷◌, map, Some, slice_get}
 use Rattle.cf_base.specs.declared.at.At.{At}
 use Rattle.cf_grammar.specs.Grammar.{rules}
 use Rattle.cf_grammar.specs.Productions.{at_number, productions}
@@ -13,7 +13,7 @@ use Rattle.cf_syntax.proofs.Cases.{clash, none_some, some_inj}
 use Rattle.cf_parse.specs.Evaluation.{action, arity, firsts}
 use Rattle.cf_parse.specs.Kinds as kind
 use Rattle.cf_parse.specs.Kinds.{Kind, Many, Maybe, Fits, AllFit, end, next, kind_of, of_symbol, params, IsOptional, Gives, a_token, a_name, a_whole, a_natlit, a_word, a_term, a_binder, a_domain, an_argument, an_onto, brackets, an_arm, a_ctor, a_decl, a_program, none, more, left_out, given}
-use Rattle.cf_parse.specs.Meaning.{Action, Sem, actions, nothing}
+use Rattle.cf_parse.specs.Meaning.{Sem, actions, nothing}
 use Rattle.cf_parse.specs.Standing.{nullable}
 
 -- the right sides of a phrase, each with its kind

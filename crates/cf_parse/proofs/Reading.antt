@@ -1,9 +1,9 @@
 -- Tokens that the grammar finds to be a program read as the program that their steps build.
-use Rattle.std.proofs.Common.{◌≡◌, ◌∙◌, refl, ap, sym, subst, ℕ, ◌≤◌, Bool, true, List, [], ◌∷◌, length, Some, None}
+use Rattle.std.proofs.Common.{◌≡◌, refl, ap, sym, subst, Bool, List, [], ◌∷◌, Some}
 use Rattle.cf_tree.specs.Tree as trees
-use Rattle.cf_grammar.specs.Grammar.{IsProgram, Takes, exact, start}
+use Rattle.cf_grammar.specs.Grammar.{Takes, exact, start}
 use Rattle.cf_grammar.specs.Productions.{Follows}
-use Rattle.cf_grammar.specs.Refusing.{Says, excess}
+use Rattle.cf_grammar.specs.Refusing.{Says}
 use Rattle.cf_grammar.specs.declared.classes.Class.TheVariants as class
 use Rattle.cf_grammar.specs.declared.endings.Ending.TheVariants as ending
 use Rattle.cf_grammar.specs.declared.phrases.Symbol.TheVariants.{Is as is}
@@ -21,8 +21,8 @@ use Rattle.cf_parse.specs.Meaning.{Sem, program_in, value}
 use Rattle.cf_parse.specs.Meaning as meant
 use Rattle.cf_syntax.specs.Numbers.{in_range}
 use Rattle.cf_parse.specs.Reads.{ReadsTokens}
-use Rattle.cf_parse.specs.Standing.{StandAll, Stands, both, none, token}
-use Rattle.cf_syntax.specs.Tokens.{Token, classes, tokens_of}
+use Rattle.cf_parse.specs.Standing.{Stands, both, none, token}
+use Rattle.cf_syntax.specs.Tokens.{Token, classes}
 
 -- what the steps build is what the tokens read as
 pub record Parsed (b : Bool) (ks : List Token) (ps : List Step) : Type 0 where

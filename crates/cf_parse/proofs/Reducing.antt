@@ -12,7 +12,7 @@ use Rattle.cf_parse.proofs.Taken.{eight, five, four, made, name_class, one, reto
 use Rattle.cf_parse.specs.Evaluation.{first_token, firsts}
 use Rattle.cf_parse.specs.Kinds as kind
 use Rattle.cf_parse.specs.Kinds.{Kind, Fits, AllFit}
-use Rattle.cf_syntax.specs.Places.{place, IsName}
+use Rattle.cf_syntax.specs.Places.{IsName}
 use Rattle.cf_parse.specs.Meaning.{Action, Sem, arms_in, binders_in, or_missing, type_or}
 use Rattle.cf_parse.specs.Meaning as meant
 use Rattle.cf_syntax.specs.Tokens.{Token}

@@ -1,5 +1,5 @@
 -- How what stands at some tokens is told from its parts.
-use Rattle.std.proofs.Common.{◌≡◌, refl, ap, sym, subst, ℕ, Bool, true, false, List, [], ◌∷◌, Option, Some, None, slice_get}
+use Rattle.std.proofs.Common.{◌≡◌, refl, ℕ, Bool, true, List, [], ◌∷◌, Some, None, slice_get}
 use Rattle.cf_grammar.specs.Choosing.{which}
 use Rattle.cf_grammar.specs.Grammar.{rules, Takes}
 use Rattle.cf_grammar.specs.declared.classes.Class.{Class}

@@ -1,5 +1,5 @@
 -- Which program the tokens of a text read as.
-use Rattle.std.specs.Prelude.{ℕ, Bool, true, false, ◌&&◌, List, [], ◌∷◌, Option, Some, None, IsTrue, ◌≡◌}
+use Rattle.std.specs.Prelude.{Bool, true, false, ◌&&◌, List, [], ◌∷◌, Option, Some, None, IsTrue, ◌≡◌}
 use Rattle.cf_lex.specs.Lexed.{TokenList}
 use Rattle.cf_grammar.specs.declared.classes.Class.TheVariants as class
 use Rattle.cf_grammar.specs.declared.endings.Fault.{Fault}

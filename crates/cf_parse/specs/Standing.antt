@@ -1,10 +1,7 @@
 -- What stands at some tokens, where each right side is the one that the table gives for the next token: so it is told apart token by token.
 use Rattle.std.specs.Prelude.{ℕ, Bool, true, false, List, [], ◌∷◌, Some, None, slice_get, ◌≡◌}
-use Rattle.cf_base.specs.declared.at.At.{At}
 use Rattle.cf_grammar.specs.Choosing.{which}
 use Rattle.cf_grammar.specs.Grammar.{rules, Takes}
-use Rattle.cf_grammar.specs.declared.classes.Class.{Class}
-use Rattle.cf_grammar.specs.declared.classes.Class.TheVariants as class
 use Rattle.cf_grammar.specs.declared.phrases.Phrase.{Phrase}
 use Rattle.cf_grammar.specs.declared.phrases.Symbol.{Symbol}
 use Rattle.cf_grammar.specs.declared.phrases.Symbol.TheVariants.{Phrase as a}

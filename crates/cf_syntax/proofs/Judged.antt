@@ -8,18 +8,14 @@ use Rattle.cf_lex.specs.declared.token.TokenKind.TheVariants as kind
 use Rattle.cf_lex.specs.Lexed.{TokenList}
 use Rattle.cf_lex.specs.declared.token.Token as lexed
 use Rattle.cf_grammar.specs.declared.endings.Ending.TheVariants as ending
-use Rattle.cf_grammar.specs.declared.phrases.Symbol.{Symbol}
-use Rattle.cf_grammar.specs.declared.phrases.Symbol.TheVariants.{Is as is, Phrase as a}
-use Rattle.cf_syntax.specs.Places.{place, IsPlace, front}
+use Rattle.cf_syntax.specs.Places.{IsPlace, front}
 use Rattle.cf_base.specs.declared.at.At.{At}
-use Rattle.cf_grammar.specs.Grammar.{IsProgram, Takes, start}
-use Rattle.cf_grammar.specs.Grammar as grammar
+use Rattle.cf_grammar.specs.Grammar.{IsProgram}
 use Rattle.cf_grammar.specs.Refusing.{excess, IsFirstDead, IsFirstPast, IsDead, IsText, NoneBefore, Says}
 use Rattle.cf_grammar.specs.declared.classes.Class.{Class}
-use Rattle.cf_grammar.specs.declared.classes.Class.TheVariants as class
 use Rattle.cf_grammar.specs.declared.endings.Fault.{Fault}
 use Rattle.cf_syntax.proofs.Refusing.{Unspoiled, unspoiled_front, literal_refused, syntax_refused, past_refused, wrong_of}
-use Rattle.cf_syntax.proofs.Cases.{clash, none_some, some_inj}
+use Rattle.cf_syntax.proofs.Cases.{clash}
 use Rattle.cf_syntax.specs.Checks as checks
 use Rattle.cf_syntax.specs.Checks.{AllInRange, one, FirstBad, token_in_range}
 use Rattle.cf_syntax.specs.Numbers.{in_range}

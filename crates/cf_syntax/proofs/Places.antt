@@ -1,5 +1,5 @@
 -- The tokens of a text from some place on.
-use Rattle.std.proofs.Common.{◌≡◌, ◌∙◌, refl, ap, sym, subst, ℕ, zero, suc, ◌+◌, ◌≤◌, List, [], ◌∷◌, ◌++◌, length, map, drop, arith, Option, Some, None, slice_get, slice_range}
+use Rattle.std.proofs.Common.{◌≡◌, ◌∙◌, ap, sym, subst, ℕ, zero, suc, ◌≤◌, List, [], ◌∷◌, ◌++◌, length, map, drop, arith, Option, Some, None, slice_get, slice_range}
 use Rattle.cf_lex.specs.Lexed.{TokenList}
 use Rattle.cf_lex.specs.declared.token.Token as lexed
 use Rattle.cf_syntax.specs.Places.{front}

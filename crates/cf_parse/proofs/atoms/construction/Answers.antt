@@ -1,7 +1,6 @@
 use Rattle.std.proofs.Common.{sym, refl, ◌∷◌, []}
 use Rattle.cf_parse.proofs.Taken.{six, made, constructed}
 use Rattle.cf_parse.specs.Evaluation.{reduced}
-use Rattle.cf_parse.specs.Values.{sem}
 use Rattle.cf_grammar.specs.declared.productions.Production.TheVariants as by
 use Rattle.cf_parse.specs.Kinds as kind
 use Rattle.cf_parse.proofs.atoms.construction.Goals as goal

@@ -1,7 +1,6 @@
 use Rattle.std.proofs.Common.{refl, ◌∷◌, []}
 use Rattle.cf_parse.proofs.Taken.{four, made}
 use Rattle.cf_parse.specs.Evaluation.{reduced}
-use Rattle.cf_parse.specs.Values.{sem}
 use Rattle.cf_grammar.specs.declared.productions.Production.TheVariants as by
 use Rattle.cf_parse.specs.Kinds as kind
 use Rattle.cf_parse.proofs.atoms.enclosed.Goals as goal

@@ -1,4 +1,4 @@
-use Rattle.std.proofs.Common.{[], ◌∷◌, ◌++◌, ◌+◌, ◌∙◌, ap, map, reverse, subst, sym}
+use Rattle.std.proofs.Common.{[], ◌∷◌, ◌++◌, ◌∙◌, ap, map, reverse, subst, sym}
 use Rattle.cf_syntax.proofs.Places.{head_is}
 use Rattle.cf_parse.proofs.Stages.{begun, ended, none_left, opening, took}
 use Rattle.cf_parse.specs.Building.{Stage}

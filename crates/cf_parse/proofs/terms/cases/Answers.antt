@@ -2,7 +2,6 @@ use Rattle.std.proofs.Common.{refl, reverse}
 use Rattle.cf_parse.proofs.Reducing.{cases_made, of_seven}
 use Rattle.cf_parse.specs.Kinds as kind
 use Rattle.cf_parse.specs.Meaning as meant
-use Rattle.cf_parse.specs.Values.{sem}
 use Rattle.cf_parse.proofs.terms.cases.Goals as goal
 
 pub returns : goal.returns

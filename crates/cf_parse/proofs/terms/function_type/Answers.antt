@@ -2,7 +2,6 @@ use Rattle.std.proofs.Common.{refl}
 use Rattle.cf_parse.proofs.Reducing.{of_four}
 use Rattle.cf_parse.specs.Kinds as kind
 use Rattle.cf_parse.specs.Meaning as meant
-use Rattle.cf_parse.specs.Values.{sem}
 use Rattle.cf_parse.proofs.terms.function_type.Goals as goal
 
 pub returns : goal.returns

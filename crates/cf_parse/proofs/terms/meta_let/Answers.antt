@@ -3,7 +3,6 @@ use Rattle.cf_tree.specs.declared.heads.Head.TheVariants as head
 use Rattle.cf_parse.proofs.Reducing.{of_eight}
 use Rattle.cf_parse.specs.Kinds as kind
 use Rattle.cf_parse.specs.Meaning as meant
-use Rattle.cf_parse.specs.Values.{sem}
 use Rattle.cf_parse.proofs.terms.meta_let.Goals as goal
 
 pub returns : goal.returns
