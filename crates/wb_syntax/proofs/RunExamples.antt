@@ -1,10 +1,10 @@
 -- How small modules run: their end, the words that they need, and their steps.
 use Rattle.std.specs.Prelude.{◌≡◌, ℕ, ◌-◌, List, [], ◌∷◌, ℤ, pos, None, refl}
-use Rattle.wb_syntax.specs.Syntax.{Module}
+use Rattle.wb_syntax.specs.Syntax.{I64, Module}
 use Rattle.wb_syntax.specs.Table.{row_at}
-use Rattle.wb_syntax.specs.Execute.{TheStore, TrapKind, DivideByZero}
+use Rattle.wb_syntax.specs.Execute.{word, TheStore, TrapKind, DivideByZero}
 use Rattle.wb_syntax.specs.Runs.{mach, RunEnd, Returned, Trapped, StackFull, Stuck, Running, NoMain}
-use Rattle.wb_syntax.proofs.Samples.{seven, endless, counted_loop, factorial, table_of_labels, dividing}
+use Rattle.wb_syntax.proofs.Samples.{seven, endless, counted_loop, factorial, table_of_labels, dividing, set_and_put, set_and_stuck}
 
 no_data : TheStore
 no_data = record { memory = None; globals = [] }
@@ -18,6 +18,28 @@ five_words = refl
 four_words : mach seven [] 4 0 ≡ StackFull no_data
 unfolding no_data
 four_words = refl
+
+-- the store with one global
+global_at : ℕ → TheStore
+global_at n = record { memory = None; globals = word I64 n ∷ [] }
+
+-- the store of a full stack is that of the state that has too many words
+full_at_first : mach set_and_put [] 4 3 ≡ StackFull (global_at 5)
+unfolding global_at
+full_at_first = refl
+
+full_behind_a_step : mach set_and_put [] 5 3 ≡ StackFull (global_at 7)
+unfolding global_at
+full_behind_a_step = refl
+
+-- the store of a state that has no step is its own, with no step to be made too
+stuck_behind_a_step : mach set_and_stuck [] 5 1 ≡ Stuck (global_at 7)
+unfolding global_at
+stuck_behind_a_step = refl
+
+stuck_with_steps_to_spare : mach set_and_stuck [] 5 9 ≡ Stuck (global_at 7)
+unfolding global_at
+stuck_with_steps_to_spare = refl
 
 -- an end without its store and its state
 data Answer : Type 0 where

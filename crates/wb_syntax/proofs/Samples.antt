@@ -1,6 +1,6 @@
 -- Small modules, some also as bytes, that the worked examples speak of.
-use Rattle.std.specs.Prelude.{pos, ℕ, List, [], ◌∷◌, ◌++◌, Some, None}
-use Rattle.wb_syntax.specs.Syntax.{NumType, I64, Instr, Unreachable, Block, Loop, If, Else, End, Br, BrIf, BrTable, Call, LocalGet, LocalSet, I32Const, I64Const, Unary, Binary, LocalRun, Module, AFunc}
+use Rattle.std.specs.Prelude.{pos, ℕ, true, List, [], ◌∷◌, ◌++◌, Some, None}
+use Rattle.wb_syntax.specs.Syntax.{NumType, I64, Instr, Unreachable, Block, Loop, If, Else, End, Br, BrIf, BrTable, Call, Drop, LocalGet, LocalSet, GlobalSet, I32Const, I64Const, Unary, Binary, LocalRun, Module, AFunc}
 use Rattle.wb_syntax.specs.Binary.{header}
 use Rattle.wb_syntax.specs.Runs.{main_name}
 
@@ -81,3 +81,17 @@ table_of_labels = main_from (I64 ∷ []) [] (
 -- 1 divided by the argument, in a block
 abbrev pub dividing : Module
 dividing = main_from (I64 ∷ []) [] (Block (Some I64) ∷ I64Const (pos 1) ∷ LocalGet 0 ∷ Binary 0x7F ∷ End ∷ End ∷ [])
+
+-- a global, 5 at first, is set to 7, and this follows
+abbrev pub setting : List Instr → Module
+setting rest = record (main_with (I64Const (pos 7) ∷ GlobalSet 0 ∷ rest)) {
+  globals = record { ty = I64; mutable = true; init = I64Const (pos 5) ∷ End ∷ [] } ∷ [];
+}
+
+-- two constants follow, one of which is dropped
+abbrev pub set_and_put : Module
+set_and_put = setting (I64Const (pos 1) ∷ I64Const (pos 2) ∷ Drop ∷ End ∷ [])
+
+-- a word is dropped that is not there
+abbrev pub set_and_stuck : Module
+set_and_stuck = setting (Drop ∷ End ∷ [])
