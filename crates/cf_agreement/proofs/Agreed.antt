@@ -10,11 +10,11 @@ use Rattle.cf_agreement.specs.Agreement.{Agrees, returned, divided_by_zero, over
 use Rattle.cf_agreement.specs.Laws.{AgreeingIsOver, OneOutcome, SameOutcomes}
 
 pub agreeing_is_over_lem : AgreeingIsOver
-agreeing_is_over_lem o e (returned z s) = (tt, λ e. cc)
-agreeing_is_over_lem o e (divided_by_zero s) = (tt, λ e. cc)
-agreeing_is_over_lem o e (overflowed s) = (tt, λ e. cc)
-agreeing_is_over_lem o e (heap_full s is) = (tt, λ e. cc)
-agreeing_is_over_lem o e (failed s is) = (tt, λ e. cc)
+agreeing_is_over_lem o e (returned z s) = (tt, λ e. e)
+agreeing_is_over_lem o e (divided_by_zero s) = (tt, λ e. e)
+agreeing_is_over_lem o e (overflowed s) = (tt, λ e. e)
+agreeing_is_over_lem o e (heap_full s is) = (tt, λ e. e)
+agreeing_is_over_lem o e (failed s is) = (tt, λ e. e)
 
 -- the outcome that a status word tells
 abbrev by_status : ℕ → Outcome
