@@ -7,6 +7,7 @@ use cf_rules::{CoreDecl, CoreProgram};
 use cf_term::Term;
 use cf_tree::Program;
 use std::alloc::Global;
+use std::rc::Rc;
 use std::test::Fail;
 
 /// A data type that stands above terms.
@@ -41,23 +42,24 @@ fn body_of(decl: CoreDecl) -> Option<Term> {
     }
 }
 
-/// The body of the last declaration of the program with this text.
-pub(crate) fn last_body(alloc: Global, text: &str) -> Result<Term, Fail> {
+/// The body of the last declaration of the program with this text. Terms are kept shared, so that a function that has several drops each by
+/// one call.
+pub(crate) fn last_body(alloc: Global, text: &str) -> Result<Rc<Term>, Fail> {
     let mut core = core_of(alloc, text)?;
     match core.decls.pop() {
-        Some(decl) => Ok(body_of(decl).ok_or("no body")?),
+        Some(decl) => Ok(Rc::new(alloc, body_of(decl).ok_or("no body")?)?),
         None => Err(Fail::from("no declaration")),
     }
 }
 
 /// The term with this text below these declarations.
-pub(crate) fn body_below(alloc: Global, above: &str, text: &str) -> Result<Term, Fail> {
+pub(crate) fn body_below(alloc: Global, above: &str, text: &str) -> Result<Rc<Term>, Fail> {
     let program = format!(in alloc; "{above} main : Int := {text};")?;
     last_body(alloc, program.as_str())
 }
 
 /// The term with this text, where these letters are its variables, the last of them innermost.
-pub(crate) fn term_of(alloc: Global, variables: &str, text: &str) -> Result<Term, Fail> {
+pub(crate) fn term_of(alloc: Global, variables: &str, text: &str) -> Result<Rc<Term>, Fail> {
     let mut above = String::from_str(alloc, DATA)?;
     for name in variables.chars() {
         above.push_str(" ")?;

@@ -68,11 +68,19 @@ pub(crate) const FORMS: &str = "1 § 1 § a
 9 § 5 § \\(x : a). fn (u : x). z a u
 10 § 5 § Pi (x : a) -> Sig (u : x), mlet v : u := x; a v";
 
+fn shifted_by_10(alloc: Global, t: &Term) -> Result<Rc<Term>, Fail> {
+    Ok(Rc::new(alloc, shift(alloc, t, 3, 10)?)?)
+}
+
+fn with_3(alloc: Global, t: &Term, by: &Term) -> Result<Rc<Term>, Fail> {
+    Ok(Rc::new(alloc, subst(alloc, t, 3, by)?)?)
+}
+
 // Whether shifting the term by 10 from 3 on and putting in variable 7 for 3 give these terms.
 fn moves(alloc: Global, t: &Term, shifted: &Term, put: &Term) -> Result<bool, Fail> {
-    let raised = shift(alloc, t, 3, 10)?;
+    let raised = shifted_by_10(alloc, t)?;
     let by = term_of(alloc, PUT, "a")?;
-    let replaced = subst(alloc, t, 3, &by)?;
+    let replaced = with_3(alloc, t, &by)?;
     Ok(same(&raised, shifted) && same(&replaced, put))
 }
 
@@ -132,7 +140,8 @@ fn is_put_in(alloc: Global, row: &str) -> Result<bool, Fail> {
     let t = term_of(alloc, VARIABLES, text)?;
     let by = term_of(alloc, "fgdcbzyw", by)?;
     let want = term_of(alloc, "fgdcbzyw", want)?;
-    Ok(same(&subst(alloc, &t, 3, &by)?, &want))
+    let found = with_3(alloc, &t, &by)?;
+    Ok(same(&found, &want))
 }
 
 #[test]
@@ -170,23 +179,18 @@ fn others_differ(rt: HostRuntime) -> Result<(), Fail> {
     Ok(())
 }
 
-fn shared(alloc: Global, variables: &str, text: &str) -> Result<Rc<Term>, Fail> {
-    Ok(Rc::new(alloc, term_of(alloc, variables, text)?)?)
-}
-
 // A group of two definitions, whose variables are `u` and `v`; no text has one.
-fn group(alloc: Global, outer: &str, inner: &str) -> Result<Term, Fail> {
+fn group(alloc: Global, outer: &str, inner: &str) -> Result<Rc<Term>, Fail> {
     let mut definitions = Vec::new(alloc);
     for (ty, value) in [("a", "v a"), ("b", "u c")] {
-        let ty = shared(alloc, outer, ty)?;
-        let value = shared(alloc, inner, value)?;
+        let ty = term_of(alloc, outer, ty)?;
+        let value = term_of(alloc, inner, value)?;
         definitions.push(Definition { ty, value })?;
     }
-    let body = shared(alloc, inner, "u v a b")?;
-    Ok(Term {
-        inserted: false,
-        node: TermNode::LetRec { definitions, body },
-    })
+    let body = term_of(alloc, inner, "u v a b")?;
+    let node = TermNode::LetRec { definitions, body };
+    let inserted = false;
+    Ok(Rc::new(alloc, Term { inserted, node })?)
 }
 
 #[test]
@@ -201,12 +205,19 @@ fn groups_of_definitions(rt: HostRuntime) -> Result<(), Fail> {
     Ok(())
 }
 
+// The term of a text, marked as inserted.
+fn inserted(alloc: Global, text: &str) -> Result<Rc<Term>, Fail> {
+    let t = term_of(alloc, VARIABLES, text)?;
+    let mut t = copy(alloc, &t)?;
+    t.inserted = true;
+    Ok(Rc::new(alloc, t)?)
+}
+
 // A copy keeps the mark of what was inserted and the flag of what is implicit; the comparison sets them aside.
 #[test]
 fn marks_and_flags(rt: HostRuntime) -> Result<(), Fail> {
     let alloc = rt.alloc();
-    let mut t = term_of(alloc, VARIABLES, "\\{x : a}. x")?;
-    t.inserted = true;
+    let t = inserted(alloc, "\\{x : a}. x")?;
     let copied = copy(alloc, &t)?;
     assert!(rt; copied.inserted);
     assert!(rt; matches!(&copied.node, TermNode::Lam { implicit: true, .. }));

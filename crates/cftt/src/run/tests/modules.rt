@@ -112,11 +112,14 @@ fn cut_at(length: usize) -> &'static str {
 
 #[test]
 fn cut_modules(rt: HostRuntime) -> Result<(), Fail> {
-    let mut bytes = bytes_of(rt.alloc(), "header type function export seven")?;
+    let bytes = bytes_of(rt.alloc(), "header type function export seven")?;
     assert_eq!(rt; bytes.len(), 37);
-    while !bytes.is_empty() {
-        assert!(rt; comes_to(rt.alloc(), "run", &bytes, cut_at(bytes.len()))?);
-        bytes.pop();
+    for length in 0..38 {
+        let front = bytes.get(..length).unwrap_or(&[]);
+        assert!(rt;
+            comes_to(rt.alloc(), "run", front, cut_at(length))?,
+            "{length}"
+        );
     }
     Ok(())
 }
