@@ -1,0 +1,9 @@
+//! Laws of answers and refusals, each proved as the contract of a function that does nothing.
+//!
+//! An answer and the cause of a refusal exclude each other, and so do two causes. Want of memory has no cause: no law says
+//! when it comes.
+#![tactic(auto)]
+
+mod laws;
+
+pub use laws::{one_refusal_of_run, refuses_no_run, runs_to_one};
