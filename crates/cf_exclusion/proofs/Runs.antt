@@ -20,6 +20,7 @@ use Rattle.cf_diag.specs.declared.refusal.Refusal.TheVariants.{Malformed, Outsid
 use Rattle.cf_driver.specs.declared.ends.Line.{Line}
 use Rattle.cf_driver.specs.Executed.{IsCallable, IsNoModule, IsNotCallable, HasNoEnd, HasNoRun, IsNotRun, RunsTo, line_of, most_pages}
 use Rattle.cf_syntax.proofs.Cases.{some_inj}
+use Rattle.cf_exclusion.proofs.Memory.{if_memory}
 use Rattle.cf_exclusion.specs.Laws.{RefusesNoRun, RunsToOne, OneRefusalOfRun}
 
 -- ---- names of what is outside the profile, and of parts
@@ -140,10 +141,6 @@ Tells (MalformedAt at) args words limit r = r ≡ Malformed at
 Tells (OutsideAt at what) args words limit r = r ≡ Outside at (named_of what)
 Tells (IsModule m) args words limit r = ((p : ThePart) × IsFirstInvalid m (part_of p) × (r ≡ Invalid p)) ⊎ (Valid m × (r ≡ told_by m args words limit))
 
-is_memory : (r : Refusal) → (r ≡ NoMemory) ⊎ (r ≢ NoMemory)
-is_memory NoMemory = inl refl
-is_memory _ = inr (λ e. absurd cc)
-
 module _ (exactly : DecodedExactly) (one : FirstIsOne) (none : ValidHasNone) where
   no_module_tells : (bytes : List ℕ) (args : List ℤ) (words limit : ℕ) (r : Refusal) → r ≢ NoMemory → IsNoModule bytes r → Tells (decoded bytes) args words limit r
   no_module_tells bytes args words limit (Malformed at) n h = subst (λ d. Tells d args words limit (Malformed at)) (sym h) refl
@@ -184,10 +181,7 @@ module _ (exactly : DecodedExactly) (one : FirstIsOne) (none : ValidHasNone) whe
 
   pub refuses_no_run : RefusesNoRun
   refuses_no_run bytes args words limit line r h k =
-      ⊎_elim
-      (λ e. e)
-      (λ n. tells_one (decoded bytes) args words limit r NoMemory (not_run_tells bytes args words limit r n k) (run_tells bytes args words limit line h))
-      (is_memory r)
+      if_memory r (λ n. n (tells_one (decoded bytes) args words limit r NoMemory (not_run_tells bytes args words limit r n k) (run_tells bytes args words limit line h)))
 
 pub runs_to_one : EncodesOne → RunsToOne
 runs_to_one one bytes args words limit line other h k =

@@ -1,9 +1,64 @@
 //! Laws of answers and refusals, each proved as the contract of a function that does nothing.
 
-ghost use Rattle.cf_exclusion.specs.Laws.{OneRefusalOfRun, RefusesNoRun, RunsToOne};
+ghost use Rattle.cf_exclusion.specs.Laws.{
+  OneLexed,
+  RefusesNoProgram,
+  OneRefusalOfTokens,
+  ReadsAsOne,
+  RefusesNoRead,
+  OneRefusalOfSource,
+  RefusesNoRun,
+  RunsToOne,
+  OneRefusalOfRun,
+};
 
+use cf_grammar::one_choice;
+use cf_lex::lexes_one;
+use cf_parse::reads_one;
 use wb_syntax::{decoded_exactly, encodes_one};
 use wb_valid::first_is_one;
+
+/// A text has one answer: its tokens, or why it has none.
+pub fn one_lexed()
+    ensures { OneLexed }
+{
+    lexes_one();
+}
+
+/// Tokens that read as a program are refused for want of memory alone.
+pub fn refuses_no_program()
+    ensures { RefusesNoProgram }
+{}
+
+/// There is one reason at most why tokens are no program.
+pub fn one_refusal_of_tokens()
+    ensures { OneRefusalOfTokens }
+{
+    one_choice();
+}
+
+/// A source reads as one program at most.
+pub fn reads_as_one()
+    ensures { ReadsAsOne }
+{
+    lexes_one();
+    reads_one();
+}
+
+/// A source that reads as a program is unread for want of memory alone.
+pub fn refuses_no_read()
+    ensures { RefusesNoRead }
+{
+    lexes_one();
+}
+
+/// There is one reason at most why a source is unread.
+pub fn one_refusal_of_source()
+    ensures { OneRefusalOfSource }
+{
+    lexes_one();
+    one_choice();
+}
 
 /// Bytes that are run to an end are refused for want of memory alone.
 pub fn refuses_no_run()

@@ -6,4 +6,8 @@
 
 mod laws;
 
-pub use laws::{one_refusal_of_run, refuses_no_run, runs_to_one};
+pub use laws::{
+    one_lexed, one_refusal_of_run,
+    one_refusal_of_source, one_refusal_of_tokens, reads_as_one,
+    refuses_no_program, refuses_no_read, refuses_no_run, runs_to_one,
+};
