@@ -11,6 +11,8 @@ use Rattle.cf_syntax.specs.declared.ends.ParseEnd.TheVariants as end
 use Rattle.cf_parse.specs.Reads.{Reads}
 use Rattle.cf_diag.specs.declared.refusal.Refusal.{Refusal}
 use Rattle.cf_diag.specs.declared.refusal.Refusal.TheVariants.{NoMemory}
+use Rattle.cf_driver.specs.Built.{BuiltFrom, IsNotBuilt}
+use Rattle.cf_driver.specs.Cores.{CoreFrom, HasNoCore}
 use Rattle.cf_driver.specs.Executed.{RunsTo, IsNotRun}
 use Rattle.cf_driver.specs.Sources.{ReadsAs, IsUnread}
 use Rattle.cf_driver.specs.declared.ends.Line.{Line}
@@ -42,6 +44,30 @@ RefusesNoRead = (source : List ℕ) (p : Program) (r : Refusal) → ReadsAs sour
 -- there is one reason at most why a source is unread
 abbrev pub OneRefusalOfSource : Type 0
 OneRefusalOfSource = (source : List ℕ) (r s : Refusal) → IsUnread source r → IsUnread source s → r ≢ NoMemory → s ≢ NoMemory → r ≡ s
+
+-- ---- cores
+
+-- a source has one text of its core at most
+abbrev pub OneCore : Type 0
+OneCore = (source bytes others : List ℕ) → CoreFrom source bytes → CoreFrom source others → bytes ≡ others
+
+-- a source with a core is refused for want of memory alone
+abbrev pub RefusesNoCore : Type 0
+RefusesNoCore = (source bytes : List ℕ) (r : Refusal) → CoreFrom source bytes → HasNoCore source r → r ≡ NoMemory
+
+-- there is one reason at most why a source has no core
+abbrev pub OneRefusalOfCore : Type 0
+OneRefusalOfCore = (source : List ℕ) (r s : Refusal) → HasNoCore source r → HasNoCore source s → r ≢ NoMemory → s ≢ NoMemory → r ≡ s
+
+-- ---- modules that are built
+
+-- a source from which a module is built is refused for want of memory alone
+abbrev pub RefusesNoBuilt : Type 0
+RefusesNoBuilt = (source bytes : List ℕ) (r : Refusal) → BuiltFrom source bytes → IsNotBuilt source r → r ≡ NoMemory
+
+-- there is one reason at most why nothing is built from a source
+abbrev pub OneRefusalOfBuild : Type 0
+OneRefusalOfBuild = (source : List ℕ) (r s : Refusal) → IsNotBuilt source r → IsNotBuilt source s → r ≢ NoMemory → s ≢ NoMemory → r ≡ s
 
 -- ---- runs
 

@@ -7,6 +7,11 @@ ghost use Rattle.cf_exclusion.specs.Laws.{
   ReadsAsOne,
   RefusesNoRead,
   OneRefusalOfSource,
+  OneCore,
+  RefusesNoCore,
+  OneRefusalOfCore,
+  RefusesNoBuilt,
+  OneRefusalOfBuild,
   RefusesNoRun,
   RunsToOne,
   OneRefusalOfRun,
@@ -58,6 +63,47 @@ pub fn one_refusal_of_source()
 {
     lexes_one();
     one_choice();
+}
+
+/// A source has one text of its core at most.
+pub fn one_core()
+    ensures { OneCore }
+{
+    reads_as_one();
+}
+
+/// A source with a core is refused for want of memory alone.
+pub fn refuses_no_core()
+    ensures { RefusesNoCore }
+{
+    reads_as_one();
+    refuses_no_read();
+}
+
+/// There is one reason at most why a source has no core.
+pub fn one_refusal_of_core()
+    ensures { OneRefusalOfCore }
+{
+    reads_as_one();
+    refuses_no_read();
+    one_refusal_of_source();
+}
+
+/// A source from which a module is built is refused for want of memory alone.
+pub fn refuses_no_built()
+    ensures { RefusesNoBuilt }
+{
+    reads_as_one();
+    refuses_no_read();
+}
+
+/// There is one reason at most why nothing is built from a source.
+pub fn one_refusal_of_build()
+    ensures { OneRefusalOfBuild }
+{
+    reads_as_one();
+    refuses_no_read();
+    one_refusal_of_source();
 }
 
 /// Bytes that are run to an end are refused for want of memory alone.

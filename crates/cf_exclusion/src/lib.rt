@@ -7,7 +7,7 @@
 mod laws;
 
 pub use laws::{
-    one_lexed, one_refusal_of_run,
-    one_refusal_of_source, one_refusal_of_tokens, reads_as_one,
+    one_core, one_lexed, one_refusal_of_build, one_refusal_of_core, one_refusal_of_run,
+    one_refusal_of_source, one_refusal_of_tokens, reads_as_one, refuses_no_built, refuses_no_core,
     refuses_no_program, refuses_no_read, refuses_no_run, runs_to_one,
 };
