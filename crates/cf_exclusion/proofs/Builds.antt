@@ -1,9 +1,9 @@
 -- A module is built from a source, or none for one reason: it is unread, or its program is no sum.
-use Rattle.std.proofs.Common.{◌≡◌, ◌≢◌, ◌∙◌, refl, ap, sym, subst, ◌⊎◌, inl, inr, ℕ, List}
+use Rattle.std.proofs.Common.{◌≡◌, ◌∙◌, refl, sym, subst, ◌⊎◌, inl, inr, ℕ, List}
 use Rattle.cf_diag.specs.declared.refusal.Refusal.{Refusal}
 use Rattle.cf_diag.specs.declared.refusal.Refusal.TheVariants.{Later, NoMemory}
-use Rattle.cf_driver.specs.Built.{BuiltFrom, IsNotBuilt, IsNoSum}
-use Rattle.cf_driver.specs.Sources.{ReadsAs, IsUnread}
+use Rattle.cf_driver.specs.Built.{IsNotBuilt, IsNoSum}
+use Rattle.cf_driver.specs.Sources.{IsUnread}
 use Rattle.cf_driver.specs.Sums.{IsSum}
 use Rattle.cf_exclusion.specs.Laws.{ReadsAsOne, RefusesNoRead, OneRefusalOfSource, RefusesNoBuilt, OneRefusalOfBuild}
 

@@ -1,5 +1,5 @@
 -- A source has one core as text, or none for one reason: it is unread, or its program tells the reason.
-use Rattle.std.proofs.Common.{◌≡◌, ◌≢◌, ◌∙◌, refl, ap, sym, subst, ◌⊎◌, inl, inr, ℕ, Bool, true, false, List}
+use Rattle.std.proofs.Common.{◌≡◌, ◌∙◌, ap, sym, subst, ◌⊎◌, inl, inr, ℕ, true, false, List}
 use Rattle.cf_core_text.specs.Lines.{core_text}
 use Rattle.cf_diag.specs.declared.refusal.Refusal.{Refusal}
 use Rattle.cf_diag.specs.declared.refusal.Refusal.TheVariants.{Unknown, Twice, Later, NoMemory}
@@ -8,9 +8,8 @@ use Rattle.cf_elab.specs.Resolving.{Resolved, As}
 use Rattle.cf_elab.specs.Resolving as resolving
 use Rattle.cf_rules.specs.Programs.{Declaration}
 use Rattle.cf_tree.specs.Tree.{Program, is_explicit}
-use Rattle.cf_driver.specs.Cores.{CoreFrom, HasNoCore, HasWrongName, IsNotExplicit}
+use Rattle.cf_driver.specs.Cores.{HasNoCore}
 use Rattle.cf_driver.specs.Sources.{ReadsAs, IsUnread}
-use Rattle.cf_exclusion.proofs.Memory.{if_memory}
 use Rattle.cf_exclusion.specs.Laws.{ReadsAsOne, RefusesNoRead, OneRefusalOfSource, OneCore, RefusesNoCore, OneRefusalOfCore}
 
 abbrev wrong_name : Resolved (List Declaration) → Refusal

@@ -1,7 +1,6 @@
 -- At one token one limit on items is passed at most: what an item's first token opens below it is no item.
-use Rattle.std.proofs.Common.{◌≡◌, ◌∙◌, refl, ap, sym, subst, ℕ, Bool, true, false, if◌then◌else◌, nat_lt, List, [], ◌∷◌, ◌++◌, Option, Some, None}
+use Rattle.std.proofs.Common.{◌≡◌, ◌∙◌, refl, ap, sym, subst, Bool, true, false, if◌then◌else◌, nat_lt, List, [], ◌∷◌, ◌++◌, Some, None}
 use Rattle.cf_base.specs.declared.limit.Limit.{Limit}
-use Rattle.cf_base.specs.declared.limit.Limit.TheVariants as limit
 use Rattle.cf_grammar.proofs.Follow.{every}
 use Rattle.cf_grammar.proofs.Front.{of_each}
 use Rattle.cf_grammar.specs.Choosing.{side}
@@ -10,13 +9,12 @@ use Rattle.cf_grammar.specs.Grammar as grammar
 use Rattle.cf_grammar.specs.Laws.{OneChoice}
 use Rattle.cf_grammar.specs.Refusing.{over}
 use Rattle.cf_grammar.specs.declared.classes.Class.{Class}
-use Rattle.cf_grammar.specs.declared.endings.Fault.{Fault}
 use Rattle.cf_grammar.specs.declared.endings.Fault.TheVariants.{Many, Nested}
 use Rattle.cf_grammar.specs.declared.phrases.Phrase.{Phrase}
 use Rattle.cf_grammar.specs.declared.phrases.Phrase.TheVariants.{Decl, Param, Ctor, Field, Term, Chain, App, Head, Atom, Code, Operand, Arg}
 use Rattle.cf_grammar.specs.declared.phrases.Symbol.{Symbol}
 use Rattle.cf_grammar.specs.declared.phrases.Symbol.TheVariants.{Is as is, AnyName as NAME, Phrase as a}
-use Rattle.cf_syntax.proofs.Cases.{none_some, some_inj, clash}
+use Rattle.cf_syntax.proofs.Cases.{none_some, clash}
 use Rattle.cf_syntax.proofs.Closing.{leads_token, leads_phrase, right_of}
 use Rattle.cf_syntax.specs.Refusals.{Begins}
 
@@ -118,11 +116,15 @@ data Met (xs ys : List Symbol) : Type 0 where
   backward : Leads ys [] xs → Met xs ys
 
 module _ (choice : OneChoice) where
-  right_is : {before : List Class} {n : Phrase} {ys : List Symbol} (b : List Class) (k : Class) (m : List Class) → (d : Derives (a n ∷ ys) (b ++ k ∷ m)) → Leads start before (a n ∷ ys) → right_of d ≡ side n (head_or k b)
+  -- the first token tells the right side
+  right_is : {before : List Class} {n : Phrase} {ys : List Symbol} (b : List Class) (k : Class) (m : List Class) (d : Derives (a n ∷ ys) (b ++ k ∷ m)) → Leads start before (a n ∷ ys)
+      → right_of d ≡ side n (head_or k b)
   right_is {before = before} {n = n} {ys = ys} [] k m d g = ap right_of (choice before n k ys m g d).opened
   right_is {before = before} {n = n} {ys = ys} (j ∷ b) k m d g = ap right_of (choice before n j ys (b ++ k ∷ m) g d).opened
 
-  meet : {xs ys zs : List Symbol} {b c before : List Class} (k : Class) (m l : List Class) → Leads xs b ys → Leads xs c zs → b ≡ c → Derives ys (k ∷ m) → Derives zs (k ∷ l) → Leads start before xs → Met ys zs
+  -- two ways over the same tokens, with the same token behind them
+  meet : {xs ys zs : List Symbol} {b c before : List Class} (k : Class) (m l : List Class) → Leads xs b ys → Leads xs c zs → b ≡ c → Derives ys (k ∷ m) → Derives zs (k ∷ l)
+      → Leads start before xs → Met ys zs
   meet {xs = xs} {zs = zs} k m l grammar.none h e d f s = onward (subst (λ b. Leads xs b zs) (sym e) h)
   meet {xs = xs} {ys = ys} k m l g grammar.none e d f s = backward (subst (λ b. Leads xs b ys) e g)
   meet k m l (grammar.token t g) (grammar.token u h) e d f s = meet k m l g h (ap tail_of e) d f (leads_token s t)

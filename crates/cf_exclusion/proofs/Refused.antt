@@ -1,5 +1,5 @@
 -- Tokens are one program, or are refused for one reason: with the first token with which something is wrong, the first thing that is.
-use Rattle.std.proofs.Common.{◌≡◌, ◌≢◌, ◌∙◌, refl, ap, sym, subst, arith, append-nil, ℕ, suc, ◌+◌, ◌≤◌, ◌<◌, Bool, true, false, List, [], ◌∷◌, ◌++◌, length, Option, Some, None}
+use Rattle.std.proofs.Common.{◌≡◌, ◌≢◌, ◌∙◌, refl, ap, sym, subst, arith, append-nil, ℕ, suc, Bool, true, List, [], ◌∷◌, ◌++◌, length, Option, Some, None}
 use Rattle.cf_base.specs.declared.at.At.{At}
 use Rattle.cf_base.specs.declared.limit.Limit.{Limit}
 use Rattle.cf_grammar.proofs.Logic.{left, right}
@@ -18,14 +18,14 @@ use Rattle.cf_syntax.proofs.Refusing.{clean}
 use Rattle.cf_syntax.specs.Checks.{AllInRange, none, one}
 use Rattle.cf_syntax.specs.Numbers.{in_range}
 use Rattle.cf_syntax.specs.Places.{place}
-use Rattle.cf_syntax.specs.Refusals.{Begins, IsRefused, IsWrong, dead, many, nested, range, Literal, RefusedAt, Refuses, Syntax, TooMany, TooNested, Wrong, rank}
+use Rattle.cf_syntax.specs.Refusals.{Begins, IsRefused, IsWrong, many, Literal, RefusedAt, Refuses, Syntax, TooMany, TooNested, Wrong, rank}
 use Rattle.cf_syntax.specs.Tokens.{Token, classes, tokens_of}
 use Rattle.cf_syntax.specs.declared.ends.ParseEnd.{ParseEnd}
 use Rattle.cf_syntax.specs.declared.ends.ParseEnd.TheVariants as end
 use Rattle.cf_tree.specs.Tree as trees
-use Rattle.cf_parse.proofs.Unique.{derives, derives_all, numbered}
+use Rattle.cf_parse.proofs.Unique.{derives, derives_all}
 use Rattle.cf_parse.specs.Derivation.{Cst, Csts, Parses, ParsesAll, token, phrase, none as no_more, both}
-use Rattle.cf_parse.specs.Reads.{Reads, ReadsTokens, within, within_all, within_limit}
+use Rattle.cf_parse.specs.Reads.{ReadsTokens, within, within_all, within_limit}
 use Rattle.cf_exclusion.proofs.Items.{one_limit}
 use Rattle.cf_exclusion.specs.Laws.{RefusesNoProgram, OneRefusalOfTokens}
 
@@ -35,14 +35,18 @@ none_over : (o : Option Fault) → within_limit o ≡ true → o ≡ None
 none_over None e = refl
 none_over (Some f) e = absurd cc
 
+-- no phrase that the derivation opens passes a limit
+abbrev IsFine : {ys : List Symbol} {l : List Class} → Derives ys l → Type 0
+IsFine d = (i : ℕ) → excess d i ≡ None
+
 mutual
-  fine : {y : Symbol} {c : Cst} {ks ls : List Token} {ys : List Symbol} (p : Parses y c ks ls) (d : Derives ys (classes ls)) → within c ≡ true → ((i : ℕ) → excess d i ≡ None) → (i : ℕ) → excess (derives p d) i ≡ None
+  fine : {y : Symbol} {c : Cst} {ks ls : List Token} {ys : List Symbol} (p : Parses y c ks ls) (d : Derives ys (classes ls)) → within c ≡ true → IsFine d → IsFine (derives p d)
   fine (token t) d w h i = h (suc i)
   fine (phrase {n = n} {cs = cs} e p) d w h i =
       ap (λ o. or_later o i (excess (derives_all p d) i)) (none_over (over n) (left (within_limit (over n)) (within_all cs) w))
       ∙ fine_all p d (right (within_limit (over n)) (within_all cs) w) h i
 
-  fine_all : {r : List Symbol} {cs : Csts} {ks ls : List Token} {ys : List Symbol} (p : ParsesAll r cs ks ls) (d : Derives ys (classes ls)) → within_all cs ≡ true → ((i : ℕ) → excess d i ≡ None) → (i : ℕ) → excess (derives_all p d) i ≡ None
+  fine_all : {r : List Symbol} {cs : Csts} {ks ls : List Token} {ys : List Symbol} (p : ParsesAll r cs ks ls) (d : Derives ys (classes ls)) → within_all cs ≡ true → IsFine d → IsFine (derives_all p d)
   fine_all no_more d w h i = h i
   fine_all (both {c = c} {cs = cs} p q) d w h i = fine p (derives_all q d) (left (within c) (within_all cs) w) (fine_all q d (right (within c) (within_all cs) w) h) i
 

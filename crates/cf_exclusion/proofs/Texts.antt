@@ -1,9 +1,9 @@
 -- A text has one list of tokens, or one reason why it has none.
-use Rattle.std.proofs.Common.{◌≡◌, ◌≢◌, ◌∙◌, refl, ap, sym, subst, arith, ℕ, ◌<◌, List, [], ◌∷◌, length, Result, Ok, Err}
+use Rattle.std.proofs.Common.{◌≡◌, ◌≢◌, ◌∙◌, refl, ap, sym, subst, arith, ℕ, List, [], ◌∷◌, length, Ok, Err}
 use Rattle.std.proofs.lemmas.Str.{chars-encodes, utf8_valid_len-IsUtf8}
 use Rattle.std.specs.Str.{chars}
 use Rattle.cf_lex.specs.Laws.{LexesOne}
-use Rattle.cf_lex.specs.Lexed.{AreChars, HasBadChar, IsLexed, IsRefusal, Lexed, TokenList}
+use Rattle.cf_lex.specs.Lexed.{AreChars, IsLexed, IsRefusal, TokenList}
 use Rattle.cf_lex.specs.Names.{first_seen, names_in, tokens_of}
 use Rattle.cf_lex.specs.Tokens.{Item, Lexes}
 use Rattle.cf_lex.specs.declared.ends.LexEnd.{LexEnd}
@@ -20,7 +20,8 @@ Empty (c ∷ cs) = ⊥
 
 module _ (one : LexesOne) where
   -- what is left of one text is so once
-  same_rest : (bytes cs ds : List ℕ) (items others : List Item) (m k : ℕ) (left rest : List ℕ) → AreChars bytes cs → AreChars bytes ds → Lexes 0 cs items m left → Lexes 0 ds others k rest → (items ≡ others) × (m ≡ k) × (left ≡ rest)
+  same_rest : (bytes cs ds : List ℕ) (items others : List Item) (m k : ℕ) (left rest : List ℕ) → AreChars bytes cs → AreChars bytes ds → Lexes 0 cs items m left → Lexes 0 ds others k rest
+      → (items ≡ others) × (m ≡ k) × (left ≡ rest)
   same_rest bytes cs ds items others m k left rest a b f g = one 0 cs items others m k left rest f (subst (λ xs. Lexes 0 xs others k rest) (one_chars bytes ds cs b a) g)
 
   pub one_list : (l k : TokenList) → l.text ≡ k.text → IsLexed l → IsLexed k → l ≡ k
