@@ -1,0 +1,11 @@
+pub mod Views
+pub mod Sequenced
+pub mod Running
+pub mod Parted
+pub mod Storing
+pub mod Setting
+pub mod Stated
+pub mod Instructed
+pub mod Joining
+pub mod Controlled
+pub mod Operating

@@ -1,0 +1,9 @@
+pub mod Moves
+pub mod Runs
+pub mod States
+pub mod Memory
+pub mod Variables
+pub mod Instructions
+pub mod Control
+pub mod Joined
+pub mod Operations
