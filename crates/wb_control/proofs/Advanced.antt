@@ -15,7 +15,7 @@ use Rattle.wb_plain.specs.Effects.{State, kind_of, SameStore, effect, Ends}
 use Rattle.wb_plain.specs.Laws.{EffectsFollow}
 use Rattle.wb_plain.specs.declared.outcome.Outcome.{Outcome}
 use Rattle.wb_plain.specs.declared.outcome.Outcome.TheVariants.{Goes as OutcomeGoes, Full as OutcomeFull, Traps as OutcomeTraps, Stuck as OutcomeStuck}
-use Rattle.wb_plain.specs.Follows.{IsStraight, store_of, pages_of, Keeps, step_of, is_step}
+use Rattle.wb_plain.specs.Follows.{IsStraight, store_of, Keeps, step_of, is_step}
 use Rattle.wb_control.specs.Piles.{Label}
 use Rattle.wb_control.specs.Changes.{Run, Change, Leads, Returns, Fails, Fits, words_in, results_of, at_place, IsTooFull, Comes}
 use Rattle.wb_control.specs.Steps.{controlled}
@@ -113,23 +113,23 @@ control_moves m js room next c flow f i old new e nests leads named there h s k 
 -- ---- other instructions
 
 -- what is known at an instruction that is no control instruction and no constant
-record IsStraightAt (m : Module) (r : Run) (c : Config) (f : Func) (i : Instr) : Type 0 where
+record IsStraightAt (m : Module) (room : ℕ) (r : Run) (c : Config) (f : Func) (i : Instr) : Type 0 where
   rest : Code
   labels : List Opened
   own : List Label
   others : List Label
   tail : List Word
   callers : List Frame
-  step : machine_step m (pages_of r.state.memory) c ≡ step_of m (shaped r labels callers r.state.operands.above (Then (Plain i) rest)) rest i r.state
+  step : machine_step m room c ≡ step_of m room (shaped r labels callers r.state.operands.above (Then (Plain i) rest)) rest i r.state
   goes : (s : State) → s.operands.below ≡ r.state.operands.below → s.locals.outer ≡ r.state.locals.outer → Stands m (at_place (in_state r s) (suc r.place.at)) (shown (at_place (in_state r s) (suc r.place.at)) rest labels callers)
 
-straight_at : (m : Module) (r : Run) (c : Config) (f : Func) (i : Instr) → slice_get m.funcs r.place.func ≡ Some f → slice_get f.body r.place.at ≡ Some i → is_control i ≡ false → is_constant i ≡ false → Stands m r c → IsStraightAt m r c f i
-straight_at m r c f i named there h k s =
+straight_at : (m : Module) (room : ℕ) (r : Run) (c : Config) (f : Func) (i : Instr) → slice_get m.funcs r.place.func ≡ Some f → slice_get f.body r.place.at ≡ Some i
+    → is_control i ≡ false → is_constant i ≡ false → Stands m r c → IsStraightAt m room r c f i
+straight_at m room r c f i named there h k s =
     let u = r.state.operands.below in
     let ws = r.state.operands.above in
     let g = goes_on f.body r.place.at i s.own s.code s.labels u s.tail (simple i h) (read f.body r.place.at i s.own s.code s.labels u s.tail there (at_func m r.place f s.own s.code s.labels u s.tail named s.inside)) in
     let x : Code = Then (Plain i) g.rest in
-    let room = pages_of r.state.memory in
     let shape : c ≡ shown r x s.labels s.callers = s.is ∙ ap (λ y. shown r y s.labels s.callers) g.is in
     let F : List Word × Code → Move = λ p. step_at m room (shaped r s.labels s.callers p.0 p.1) p.1 in
     record {
@@ -143,30 +143,32 @@ straight_at m r c f i named there h k s =
       goes = λ t b o. moved_stands m r f t s.own s.rest g.rest s.labels s.tail s.callers named b o s.split s.mark s.inside.bottom s.waits g.next;
     }
 
-pub straight_moves : (m : Module) (next : ℕ) (c : Config) (flow : Flow) (f : Func) (i : Instr) (old new : Run) → next ≡ old.place.at + 1 → height_of old.state.operands ≤ old.state.operands.most → slice_get m.funcs old.place.func ≡ Some f → slice_get f.body old.place.at ≡ Some i → is_control i ≡ false → is_constant i ≡ false → Stands m old c → Straightens flow i next old new → IsMove m (machine_step m (pages_of old.state.memory) c) flow old new
-straight_moves m next c FlowSettles f i old new e l named there h k s st = absurd st
-straight_moves m next c FlowGoes f i old new e l named there h k s st =
-    let a = straight_at m old c f i named there h k s in
+pub straight_moves : (m : Module) (room next : ℕ) (c : Config) (flow : Flow) (f : Func) (i : Instr) (old new : Run) → next ≡ old.place.at + 1
+    → height_of old.state.operands ≤ old.state.operands.most → slice_get m.funcs old.place.func ≡ Some f → slice_get f.body old.place.at ≡ Some i → is_control i ≡ false
+    → is_constant i ≡ false → Stands m old c → Straightens flow room i next old new → IsMove m (machine_step m room c) flow old new
+straight_moves m room next c FlowSettles f i old new e l named there h k s st = absurd st
+straight_moves m room next c FlowGoes f i old new e l named there h k s st =
+    let a = straight_at m room old c f i named there h k s in
     let n : next ≡ suc old.place.at = e ∙ add-one old.place.at in
     let d = shaped old a.labels a.callers old.state.operands.above (Then (Plain i) a.rest) in
     let q : Run = at_place (in_state old new.state) (suc old.place.at) in
     let same : q ≡ new = sym (st.0 ∙ ap (at_place (in_state old new.state)) n) in
     let stands = a.goes new.state st.2.below st.2.outer in
     (shown q a.rest a.labels a.callers, a.step ∙ st.3 m d a.rest, subst (λ r. Stands m r (shown q a.rest a.labels a.callers)) same stands)
-straight_moves m next c FlowMoves f i old new e l named there h k s st = absurd st
-straight_moves m next c FlowFull f i old new e l named there h k s st =
-    let a = straight_at m old c f i named there h k s in
+straight_moves m room next c FlowMoves f i old new e l named there h k s st = absurd st
+straight_moves m room next c FlowFull f i old new e l named there h k s st =
+    let a = straight_at m room old c f i named there h k s in
     let d = shaped old a.labels a.callers old.state.operands.above (Then (Plain i) a.rest) in
     let o = st.0 m d a.rest in
     let q : Run = at_place (in_state old o.0) (suc old.place.at) in
     let w = words_least m q (shown q a.rest a.labels a.callers) (a.goes o.0 o.2.below o.2.outer) in
     (shown q a.rest a.labels a.callers, a.step ∙ o.1, omega (arith, w, o.3), sym (same_store old.state o.0 (o.4 l)) ∙ same_store old.state new.state st.1)
-straight_moves m next c FlowFinishes f i old new e l named there h k s st = absurd st
-straight_moves m next c (FlowTraps x) f i old new e l named there h k s st =
-    let a = straight_at m old c f i named there h k s in
+straight_moves m room next c FlowFinishes f i old new e l named there h k s st = absurd st
+straight_moves m room next c (FlowTraps x) f i old new e l named there h k s st =
+    let a = straight_at m room old c f i named there h k s in
     a.step ∙ st.0 m (shaped old a.labels a.callers old.state.operands.above (Then (Plain i) a.rest)) a.rest ∙ ap (Traps (kind_of x)) (same_store old.state new.state st.1)
-straight_moves m next c FlowStuck f i old new e l named there h k s st =
-    let a = straight_at m old c f i named there h k s in
+straight_moves m room next c FlowStuck f i old new e l named there h k s st =
+    let a = straight_at m room old c f i named there h k s in
     (a.step ∙ st.0 m (shaped old a.labels a.callers old.state.operands.above (Then (Plain i) a.rest)) a.rest, st.1)
 
 -- ---- a run that stands for a configuration has an instruction at its place
@@ -194,17 +196,18 @@ has_instr m r c f named none s =
     no_levels f.body a.there s.own s.code s.labels u s.tail (some_same a.there [] (sym a.here ∙ past_end f.body r.place.at none)) a.opens
 
 -- more words than there may be, beside what is kept
-pub over_words : (r : Run) (s : State) → Fits r → Keeps r.state s → IsOver s.operands → r.state.operands.room < words_in (in_state r s)
-over_words r s f k o = let l = k.outer in let a = ap length k.outer in omega (arith, f.words, k.most, k.locals, a, o)
+pub over_words : (room : ℕ) (r : Run) (s : State) → Fits r → Keeps room r.state s → IsOver s.operands → r.state.operands.room < words_in (in_state r s)
+over_words room r s f k o = let l = k.outer in let a = ap length k.outer in omega (arith, f.words, k.most, k.locals, a, o)
 
 -- ---- an instruction behind which a run does not go on
 
-pub stops : (o : Outcome) (i : Instr) (next : ℕ) (r : Run) (s : State) → (o ≡ OutcomeGoes → ⊥) → EffectsFollow → is_control i ≡ false → Fits r → Ends o (effect i r.state) r.state s → Straightens (flow_of o) i next r (in_state r s)
-stops OutcomeGoes i next r s not follows h f e = absurd (not refl)
-stops OutcomeFull i next r s not follows h f e =
-    ((λ m d rest. let g = (follows m d rest i OutcomeFull r.state s (is_straight i h) e).0 in (g.0, g.1, g.3, over_words r g.0 f g.3 g.2, g.4)), e.1, (e.2, refl, refl))
-stops (OutcomeTraps k) i next r s not follows h f e = ((λ m d rest. (follows m d rest i (OutcomeTraps k) r.state s (is_straight i h) e).0), e.1, (e.2, refl, refl))
-stops OutcomeStuck i next r s not follows h f e = ((λ m d rest. (follows m d rest i OutcomeStuck r.state s (is_straight i h) e).0), e.1, (e.2, refl, refl))
+pub stops : (room : ℕ) (o : Outcome) (i : Instr) (next : ℕ) (r : Run) (s : State) → (o ≡ OutcomeGoes → ⊥) → EffectsFollow → is_control i ≡ false → Fits r
+    → Ends o (effect room i r.state) r.state s → Straightens (flow_of o) room i next r (in_state r s)
+stops room OutcomeGoes i next r s not follows h f e = absurd (not refl)
+stops room OutcomeFull i next r s not follows h f e =
+    ((λ m d rest. let g = (follows m room d rest i OutcomeFull r.state s (is_straight i h) e).0 in (g.0, g.1, g.3, over_words room r g.0 f g.3 g.2, g.4)), e.1, (e.2, refl, refl))
+stops room (OutcomeTraps k) i next r s not follows h f e = ((λ m d rest. (follows m room d rest i (OutcomeTraps k) r.state s (is_straight i h) e).0), e.1, (e.2, refl, refl))
+stops room OutcomeStuck i next r s not follows h f e = ((λ m d rest. (follows m room d rest i OutcomeStuck r.state s (is_straight i h) e).0), e.1, (e.2, refl, refl))
 
 -- ---- whether a step follows
 
@@ -236,17 +239,19 @@ has_move m room c (Finishes ws t) b e h = subst (HasStep m room c) (sym h) (ap (
 has_move m room c (Traps k t) b e h = subst (HasStep m room c) (sym h) (ap (λ v. before_step v c) e)
 has_move m room c NoRule b e h = subst (HasStep m room c) (sym h) (ap (λ v. before_step v c) e)
 
-pub has_straight : (m : Module) (c : Config) (f : Func) (i : Instr) (r : Run) (b : Bool) → slice_get m.funcs r.place.func ≡ Some f → slice_get f.body r.place.at ≡ Some i → is_control i ≡ false → is_constant i ≡ false → Stands m r c → ((d : Config) (rest : Code) → b ≡ is_step (step_of m d rest i r.state)) → HasStep m (pages_of r.state.memory) c b
-has_straight m c f i r b named there h k s st =
-    let a = straight_at m r c f i named there h k s in
+pub has_straight : (m : Module) (room : ℕ) (c : Config) (f : Func) (i : Instr) (r : Run) (b : Bool) → slice_get m.funcs r.place.func ≡ Some f → slice_get f.body r.place.at ≡ Some i
+    → is_control i ≡ false → is_constant i ≡ false → Stands m r c → ((d : Config) (rest : Code) → b ≡ is_step (step_of m room d rest i r.state)) → HasStep m room c b
+has_straight m room c f i r b named there h k s st =
+    let a = straight_at m room r c f i named there h k s in
     let d = shaped r a.labels a.callers r.state.operands.above (Then (Plain i) a.rest) in
-    has_move m (pages_of r.state.memory) c (step_of m d a.rest i r.state) b a.step (st d a.rest)
+    has_move m room c (step_of m room d a.rest i r.state) b a.step (st d a.rest)
 
-pub made : (flow : Flow) (i : Instr) (next : ℕ) (r new : Run) (m : Module) (d : Config) (rest : Code) → Straightens flow i next r new → is_made flow ≡ is_step (step_of m d rest i r.state)
-made FlowSettles i next r new m d rest h = absurd h
-made FlowGoes i next r new m d rest h = sym (ap is_step (h.3 m d rest))
-made FlowMoves i next r new m d rest h = absurd h
-made FlowFull i next r new m d rest h = sym (ap is_step (h.0 m d rest).1)
-made FlowFinishes i next r new m d rest h = absurd h
-made (FlowTraps k) i next r new m d rest h = sym (ap is_step (h.0 m d rest))
-made FlowStuck i next r new m d rest h = sym (ap is_step (h.0 m d rest))
+pub made : (flow : Flow) (room : ℕ) (i : Instr) (next : ℕ) (r new : Run) (m : Module) (d : Config) (rest : Code) → Straightens flow room i next r new
+    → is_made flow ≡ is_step (step_of m room d rest i r.state)
+made FlowSettles room i next r new m d rest h = absurd h
+made FlowGoes room i next r new m d rest h = sym (ap is_step (h.3 m d rest))
+made FlowMoves room i next r new m d rest h = absurd h
+made FlowFull room i next r new m d rest h = sym (ap is_step (h.0 m d rest).1)
+made FlowFinishes room i next r new m d rest h = absurd h
+made (FlowTraps k) room i next r new m d rest h = sym (ap is_step (h.0 m d rest))
+made FlowStuck room i next r new m d rest h = sym (ap is_step (h.0 m d rest))

@@ -1,5 +1,5 @@
 -- A control instruction leads to a run with the memory and the globals that were there.
-use Rattle.std.specs.Prelude.{◌≡◌, refl, ℕ, ◌==◌, ◌+◌, ◌-◌, nat_lt, Bool, true, false, List, [], ◌∷◌, length, Option, Some, None, slice_get}
+use Rattle.std.specs.Prelude.{◌≡◌, refl, ℕ, ◌==◌, nat_lt, Bool, true, false, List, [], ◌∷◌, length, Option, Some, None, slice_get}
 use Rattle.wb_syntax.specs.declared.syntax.NumType.{NumType}
 use Rattle.wb_syntax.specs.declared.syntax.NumType.TheVariants.{I32}
 use Rattle.wb_syntax.specs.declared.syntax.Instr.{Instr}
@@ -12,8 +12,8 @@ use Rattle.wb_state.specs.Stack.{Taken, take_word}
 use Rattle.wb_plain.specs.Follows.{store_of}
 use Rattle.wb_code.specs.declared.leading.Jump.{Jump}
 use Rattle.wb_control.specs.Piles.{Label, Caller}
-use Rattle.wb_control.specs.Changes.{Run, Change, Leads, Returns, Fails, Popped, popped, at_place, with_stack, own_labels, result_count, left_label, left_frame, left_with, returned, finished, ended, branched_with, branched_at, branched}
-use Rattle.wb_control.specs.Calls.{passes, opened, called_as, called_of, called}
+use Rattle.wb_control.specs.Changes.{Run, Change, Leads, Fails, Popped, popped, at_place, with_stack, own_labels, result_count, left_label, left_frame, left_with, returned, finished, ended, branched_with, branched_at, branched}
+use Rattle.wb_control.specs.Calls.{passes, opened, called_as, called_of}
 use Rattle.wb_control.specs.Steps.{jump_of, blocked, passed_over, chosen_by, tested, branched_if, branched_by, controlled}
 
 -- a change that leads to a run leads to one with this store

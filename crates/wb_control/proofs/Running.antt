@@ -6,7 +6,7 @@ use Rattle.wb_syntax.specs.declared.syntax.Module.{Module}
 use Rattle.wb_syntax.specs.Execute.{TheStore, Config, Move, Goes, Finishes, Traps, NoRule, machine_step}
 use Rattle.wb_syntax.specs.Runs.{RunEnd, StackFull, Stuck, words_of, after_step, before_step, runs}
 use Rattle.wb_plain.specs.Effects.{kind_of}
-use Rattle.wb_plain.specs.Follows.{store_of, pages_of}
+use Rattle.wb_plain.specs.Follows.{store_of}
 use Rattle.wb_control.specs.Changes.{Run, results_of}
 use Rattle.wb_control.specs.Advances.{Advances}
 use Rattle.wb_control.specs.declared.run.Flow.{Flow}
@@ -29,15 +29,15 @@ stop_at m room words c h = ap (λ b. elim b as (λ _. RunEnd) [ true ↦ StackFu
 
 -- ---- a step of a run
 
-pub moved : (m : Module) (c : Config) (flow : Flow) (old new : Run) → words_of c ≤ old.state.operands.room → c.store ≡ store_of old.state → IsMove m (machine_step m (pages_of old.state.memory) c) flow old new → Advances m c flow old new
-moved m c FlowSettles old new h k s = absurd s
-moved m c FlowGoes old new h k s = (s.0, s.2, λ n. step_at m (pages_of old.state.memory) old.state.operands.room n c (Goes s.0) h s.1)
-moved m c FlowMoves old new h k s = (s.0, s.2, λ n. step_at m (pages_of old.state.memory) old.state.operands.room n c (Goes s.0) h s.1)
-moved m c FlowFull old new h k s = λ n.
-    let pages = pages_of old.state.memory in
+pub moved : (m : Module) (room : ℕ) (c : Config) (flow : Flow) (old new : Run) → words_of c ≤ old.state.operands.room → c.store ≡ store_of old.state
+    → IsMove m (machine_step m room c) flow old new → Advances m room c flow old new
+moved m room c FlowSettles old new h k s = absurd s
+moved m room c FlowGoes old new h k s = (s.0, s.2, λ n. step_at m room old.state.operands.room n c (Goes s.0) h s.1)
+moved m room c FlowMoves old new h k s = (s.0, s.2, λ n. step_at m room old.state.operands.room n c (Goes s.0) h s.1)
+moved m room c FlowFull old new h k s = λ n.
     let words = old.state.operands.room in
-    step_at m pages words n c (Goes s.0) h s.1 ∙ full_at m pages words n s.0 s.2 ∙ ap (λ (x : TheStore). StackFull x) s.3
-moved m c FlowFinishes old new h k s = λ n. step_at m (pages_of old.state.memory) old.state.operands.room n c (Finishes (results_of new.result) (store_of new.state)) h s
-moved m c (FlowTraps x) old new h k s = λ n. step_at m (pages_of old.state.memory) old.state.operands.room n c (Traps (kind_of x) (store_of new.state)) h s
-moved m c FlowStuck old new h k s = λ n.
-    step_at m (pages_of old.state.memory) old.state.operands.room n c NoRule h s.0 ∙ ap (λ (x : TheStore). Stuck x) (k ∙ same_store old.state new.state s.1)
+    step_at m room words n c (Goes s.0) h s.1 ∙ full_at m room words n s.0 s.2 ∙ ap (λ (x : TheStore). StackFull x) s.3
+moved m room c FlowFinishes old new h k s = λ n. step_at m room old.state.operands.room n c (Finishes (results_of new.result) (store_of new.state)) h s
+moved m room c (FlowTraps x) old new h k s = λ n. step_at m room old.state.operands.room n c (Traps (kind_of x) (store_of new.state)) h s
+moved m room c FlowStuck old new h k s = λ n.
+    step_at m room old.state.operands.room n c NoRule h s.0 ∙ ap (λ (x : TheStore). Stuck x) (k ∙ same_store old.state new.state s.1)

@@ -11,7 +11,7 @@ use Rattle.wb_syntax.specs.Execute.{Word, word, Config, Traps, NoRule, machine_s
 use Rattle.wb_syntax.specs.Runs.{RunEnd, Trapped, StackFull, Running, Stuck, words_of, returned, before_step, runs}
 use Rattle.wb_state.specs.Stack.{put, height_of, IsOver}
 use Rattle.wb_plain.specs.Effects.{State, kind_of, SameStore, writes_store}
-use Rattle.wb_plain.specs.Follows.{store_of, pages_of, Keeps, step_of, move_to}
+use Rattle.wb_plain.specs.Follows.{store_of, Keeps, step_of, move_to}
 use Rattle.wb_plain.specs.declared.outcome.Outcome.{Outcome}
 use Rattle.wb_plain.specs.declared.outcome.Outcome.TheVariants.{Goes as OutcomeGoes, Full as OutcomeFull, Traps as OutcomeTraps, Stuck as OutcomeStuck}
 use Rattle.wb_code.specs.declared.leading.Jump.{Jump}
@@ -83,47 +83,49 @@ flow_of OutcomeStuck = FlowStuck
 abbrev pub in_state : Run → State → Run
 in_state r s = record r { state = s }
 
--- an instruction that is no control instruction and no constant: the run goes on behind it in the state that its step
--- leaves, or it does not
-abbrev pub Straightens : Flow → Instr → (next : ℕ) → (old new : Run) → Type 0
-Straightens FlowGoes i next old new =
-    (new ≡ at_place (in_state old new.state) next) × Fits new × Keeps old.state new.state
-    × ((m : Module) (c : Config) (rest : Code) → step_of m c rest i old.state ≡ move_to c rest new.state)
+-- an instruction that is no control instruction and no constant, where memory has this room: the run goes on
+-- behind it in the state that its step leaves, or it does not
+abbrev pub Straightens : Flow → (room : ℕ) → Instr → (next : ℕ) → (old new : Run) → Type 0
+Straightens FlowGoes room i next old new =
+    (new ≡ at_place (in_state old new.state) next) × Fits new × Keeps room old.state new.state
+    × ((m : Module) (c : Config) (rest : Code) → step_of m room c rest i old.state ≡ move_to c rest new.state)
     × (writes_store i ≡ false → SameStore old.state new.state)
-Straightens FlowFull i next old new =
-    ((m : Module) (c : Config) (rest : Code) → (s : State) × (step_of m c rest i old.state ≡ move_to c rest s) × Keeps old.state s × (old.state.operands.room < words_in (in_state old s))
+Straightens FlowFull room i next old new =
+    ((m : Module) (c : Config) (rest : Code) → (s : State) × (step_of m room c rest i old.state ≡ move_to c rest s) × Keeps room old.state s × (old.state.operands.room < words_in (in_state old s))
     × (height_of old.state.operands ≤ old.state.operands.most → SameStore old.state s))
     × SameStore old.state new.state × SameRooms old new
-Straightens (FlowTraps k) i next old new = ((m : Module) (c : Config) (rest : Code) → step_of m c rest i old.state ≡ Traps (kind_of k) (store_of old.state)) × SameStore old.state new.state × SameRooms old new
-Straightens FlowStuck i next old new = ((m : Module) (c : Config) (rest : Code) → step_of m c rest i old.state ≡ NoRule) × SameStore old.state new.state × SameRooms old new
-Straightens _ i next old new = ⊥
+Straightens (FlowTraps k) room i next old new =
+    ((m : Module) (c : Config) (rest : Code) → step_of m room c rest i old.state ≡ Traps (kind_of k) (store_of old.state)) × SameStore old.state new.state × SameRooms old new
+Straightens FlowStuck room i next old new = ((m : Module) (c : Config) (rest : Code) → step_of m room c rest i old.state ≡ NoRule) × SameStore old.state new.state × SameRooms old new
+Straightens _ room i next old new = ⊥
 
--- an instruction is carried out so
-abbrev pub Carries : Flow → Module → List (List Jump) → (next : ℕ) → Instr → (old new : Run) → Type 0
-Carries flow m js next i old new = elim (constant_word i) [
+-- an instruction is carried out so, where memory has this room
+abbrev pub Carries : Flow → Module → (room : ℕ) → List (List Jump) → (next : ℕ) → Instr → (old new : Run) → Type 0
+Carries flow m room js next i old new = elim (constant_word i) [
   | Some w ↦ Puts flow w next old new
-  | None ↦ elim (is_control i) [ true ↦ Comes flow (controlled m js next old i) old new | false ↦ Straightens flow i next old new ]
+  | None ↦ elim (is_control i) [ true ↦ Comes flow (controlled m js next old i) old new | false ↦ Straightens flow room i next old new ]
 ]
 
 -- ---- runs
 
--- the run of the definition from a configuration, with the memory and the words of this run
-abbrev pub runs_from : Module → Run → (limit : ℕ) → Config → RunEnd
-runs_from m r n c = runs m (pages_of r.state.memory) r.state.operands.room n c
+-- the run of the definition from a configuration, with the words of this run and this room of the memory
+abbrev pub runs_from : Module → (room : ℕ) → Run → (limit : ℕ) → Config → RunEnd
+runs_from m room r n c = runs m room r.state.operands.room n c
 
 -- the first step from this configuration leads to one for which the run stands that is left
-abbrev pub StepsTo : Module → Config → (old new : Run) → Type 0
-StepsTo m c old new = (d : Config) × Stands m new d × ((n : ℕ) → runs_from m old (suc n) c ≡ runs_from m old n d)
+abbrev pub StepsTo : Module → (room : ℕ) → Config → (old new : Run) → Type 0
+StepsTo m room c old new = (d : Config) × Stands m new d × ((n : ℕ) → runs_from m room old (suc n) c ≡ runs_from m room old n d)
 
--- how the run of the definition goes on from a configuration, where it may make a step and any number more
-abbrev pub Advances : Module → Config → Flow → (old new : Run) → Type 0
-Advances m c FlowSettles old new = Stands m new c
-Advances m c FlowGoes old new = StepsTo m c old new
-Advances m c FlowMoves old new = StepsTo m c old new
-Advances m c FlowFull old new = (n : ℕ) → runs_from m old (suc n) c ≡ StackFull (store_of new.state)
-Advances m c FlowFinishes old new = (n : ℕ) → runs_from m old (suc n) c ≡ returned (results_of new.result) (store_of new.state)
-Advances m c (FlowTraps k) old new = (n : ℕ) → runs_from m old (suc n) c ≡ Trapped (kind_of k) (store_of new.state)
-Advances m c FlowStuck old new = (n : ℕ) → runs_from m old (suc n) c ≡ Stuck (store_of new.state)
+-- how the run of the definition goes on from a configuration, where it may make a step and any number more, and memory has
+-- this room
+abbrev pub Advances : Module → (room : ℕ) → Config → Flow → (old new : Run) → Type 0
+Advances m room c FlowSettles old new = Stands m new c
+Advances m room c FlowGoes old new = StepsTo m room c old new
+Advances m room c FlowMoves old new = StepsTo m room c old new
+Advances m room c FlowFull old new = (n : ℕ) → runs_from m room old (suc n) c ≡ StackFull (store_of new.state)
+Advances m room c FlowFinishes old new = (n : ℕ) → runs_from m room old (suc n) c ≡ returned (results_of new.result) (store_of new.state)
+Advances m room c (FlowTraps k) old new = (n : ℕ) → runs_from m room old (suc n) c ≡ Trapped (kind_of k) (store_of new.state)
+Advances m room c FlowStuck old new = (n : ℕ) → runs_from m room old (suc n) c ≡ Stuck (store_of new.state)
 
 -- a run that goes on fits
 abbrev pub FitsOn : Flow → Run → Type 0

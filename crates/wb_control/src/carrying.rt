@@ -1,9 +1,10 @@
 //! What a run does at an instruction.
 
-ghost use Rattle.std.specs.Prelude.{◌≡◌, false};
+ghost use Rattle.std.specs.Prelude.{◌≡◌, ℕ, false};
 ghost use Rattle.wb_syntax.specs.declared.syntax.Instr.{Instr as TheInstr};
 ghost use Rattle.wb_state.specs.Words.{seen};
 ghost use Rattle.wb_plain.specs.Effects.{State, Ends, effect};
+ghost use Rattle.wb_plain.specs.Follows.{pages_of};
 ghost use Rattle.wb_control.specs.Changes.{Fits};
 ghost use Rattle.wb_control.specs.Advances.{Puts, Straightens, Carries, is_control, in_state, flow_of};
 
@@ -51,7 +52,7 @@ fn flow_of(outcome: Outcome) -> Flow
 /// Goes on at `next`, behind an instruction that was carried out on the state of a run.
 #[inline(always)]
 fn follow(outcome: Outcome, run: &mut Run, next: usize) -> Flow
-    ensures { (i : TheInstr) (first : State) → is_control i ≡ false → Fits (in_state run.old first) → Ends outcome (effect i first) first run.old.state → Straightens result i next (in_state run.old first) run.new }
+    ensures { (room : ℕ) (i : TheInstr) (first : State) → is_control i ≡ false → Fits (in_state run.old first) → Ends outcome (effect room i first) first run.old.state → Straightens result room i next (in_state run.old first) run.new }
 {
     effects_are_steps();
     match outcome {
@@ -63,7 +64,7 @@ fn follow(outcome: Outcome, run: &mut Run, next: usize) -> Flow
     }
 }
 
-/// Carries out an instruction, which stands at the place of a run and before `next`.
+/// Carries out an instruction, which stands at the place of a run and before `next`. The room of the memory is its size.
 #[inline(always)]
 pub(crate) fn carry_out(
     run: &mut Run,
@@ -73,7 +74,7 @@ pub(crate) fn carry_out(
     next: usize,
 ) -> Flow
     requires { Fits run.old }
-    ensures { Carries result m.now jumps.now next instr.now run.old run.new }
+    ensures { Carries result m.now (pages_of run.old.state.memory) jumps.now next instr.now run.old run.new }
 {
     match instr {
         Instr::Unreachable => follow(Outcome::Traps(TrapKind::Unreachable), run, next),

@@ -29,21 +29,23 @@ use Rattle.wb_machine.specs.declared.ends.MachineEnd.TheVariants.{Trap as DoesTr
 kept_store : (m : Module) (c : Config) (r : Run) (new : State) → Stands m r c → SameStore r.state new → store_of new ≡ c.store
 kept_store m c r new s kept = sym (same_store r.state new kept) ∙ sym (ap (λ (d : Config). d.store) s.is)
 
-pub full_stop : (start : TheStore) (m : Module) (c : Config) (old mid : Run) → Stands m old c → SameStore old.state mid.state → Settles m c false old mid → EndsAs start (runs m (pages_of old.state.memory) old.state.operands.room 0 c) IsFull (store_of mid.state)
-full_stop start m c old mid s kept h =
-    subst (λ r. EndsAs start r IsFull (store_of mid.state)) (sym (full_at m (pages_of old.state.memory) old.state.operands.room 0 c h)) (refl, kept_store m c old mid.state s kept)
+pub full_stop : (start : TheStore) (m : Module) (room : ℕ) (c : Config) (old mid : Run) → Stands m old c → SameStore old.state mid.state → Settles m c false old mid
+    → EndsAs start (runs m room old.state.operands.room 0 c) IsFull (store_of mid.state)
+full_stop start m room c old mid s kept h =
+    subst (λ r. EndsAs start r IsFull (store_of mid.state)) (sym (full_at m room old.state.operands.room 0 c h)) (refl, kept_store m c old mid.state s kept)
 
-stopped : (m : Module) (c : Config) (old mid : Run) (end : RunEnd) → SameStore old.state mid.state → Settles m c true old mid → before_step (machine_step m (pages_of mid.state.memory) c) c ≡ end → runs m (pages_of old.state.memory) old.state.operands.room 0 c ≡ end
-stopped m c old mid end same h e =
-    stop_at m (pages_of old.state.memory) old.state.operands.room c h.1 ∙ subst (λ p. before_step (machine_step m (pages_of p) c) c ≡ end) same.0 e
+stopped : (m : Module) (room : ℕ) (c : Config) (old mid : Run) (end : RunEnd) → Settles m c true old mid → before_step (machine_step m room c) c ≡ end → runs m room old.state.operands.room 0 c ≡ end
+stopped m room c old mid end h e = stop_at m room old.state.operands.room c h.1 ∙ e
 
-pub limited : (start : TheStore) (m : Module) (c : Config) (old mid new : Run) → SameStore old.state mid.state → SameStore mid.state new.state → Settles m c true old mid → HasStep m (pages_of mid.state.memory) c true → EndsAs start (runs m (pages_of old.state.memory) old.state.operands.room 0 c) IsLimited (store_of new.state)
-limited start m c old mid new same kept h e =
-    subst (λ r. EndsAs start r IsLimited (store_of new.state)) (sym (stopped m c old mid (Running c) same h e)) (refl, kept_store m c mid new.state h.0 kept)
+pub limited : (start : TheStore) (m : Module) (room : ℕ) (c : Config) (old mid new : Run) → SameStore mid.state new.state → Settles m c true old mid → HasStep m room c true
+    → EndsAs start (runs m room old.state.operands.room 0 c) IsLimited (store_of new.state)
+limited start m room c old mid new kept h e =
+    subst (λ r. EndsAs start r IsLimited (store_of new.state)) (sym (stopped m room c old mid (Running c) h e)) (refl, kept_store m c mid new.state h.0 kept)
 
-pub stuck_stop : (start : TheStore) (m : Module) (c : Config) (old mid new : Run) → SameStore old.state mid.state → SameStore mid.state new.state → Settles m c true old mid → HasStep m (pages_of mid.state.memory) c false → EndsAs start (runs m (pages_of old.state.memory) old.state.operands.room 0 c) IsStuck (store_of new.state)
-stuck_stop start m c old mid new same kept h e =
-    subst (λ r. EndsAs start r IsStuck (store_of new.state)) (sym (stopped m c old mid (Stuck c.store) same h e)) (refl, kept_store m c mid new.state h.0 kept)
+pub stuck_stop : (start : TheStore) (m : Module) (room : ℕ) (c : Config) (old mid new : Run) → SameStore mid.state new.state → Settles m c true old mid → HasStep m room c false
+    → EndsAs start (runs m room old.state.operands.room 0 c) IsStuck (store_of new.state)
+stuck_stop start m room c old mid new kept h e =
+    subst (λ r. EndsAs start r IsStuck (store_of new.state)) (sym (stopped m room c old mid (Stuck c.store) h e)) (refl, kept_store m c mid new.state h.0 kept)
 
 -- ---- a run
 
@@ -55,37 +57,39 @@ same_pages (Some a) None e = cc
 same_pages (Some a) (Some b) e = let h : length a ≡ length b = cc in ap (λ n. n / page) h
 
 -- a run from which a run of the definition goes on
-pub record GoesOn (m : Module) (first : Run) (limit left : ℕ) (c : Config) (r : Run) : Type 0 where
+pub record GoesOn (m : Module) (room : ℕ) (first : Run) (limit left : ℕ) (c : Config) (r : Run) : Type 0 where
   pub config : Config
   pub stands : Stands m r config
-  pub rest : runs m (pages_of first.state.memory) first.state.operands.room left config ≡ runs m (pages_of first.state.memory) first.state.operands.room limit c
+  pub rest : runs m room first.state.operands.room left config ≡ runs m room first.state.operands.room limit c
 
--- the rest of a run at the sizes that it had at first
-at_first : (m : Module) (first r : Run) (n : ℕ) (c : Config) → length_of r.state.memory ≡ length_of first.state.memory → SameRooms first r → runs m (pages_of r.state.memory) r.state.operands.room n c ≡ runs m (pages_of first.state.memory) first.state.operands.room n c
-at_first m first r n c size room =
-    ap (λ p. runs m p r.state.operands.room n c) (same_pages r.state.memory first.state.memory size) ∙ ap (λ w. runs m (pages_of first.state.memory) w n c) room.0.0
+-- the rest of a run with the words that it had at first
+at_first : (m : Module) (room : ℕ) (first r : Run) (n : ℕ) (c : Config) → SameRooms first r → runs m room r.state.operands.room n c ≡ runs m room first.state.operands.room n c
+at_first m room first r n c same = ap (λ w. runs m room w n c) same.0.0
 
-pub settled_on : (m : Module) (first r new : Run) (limit left : ℕ) (c : Config) (g : GoesOn m first limit left c r) → Stands m new g.config → GoesOn m first limit left c new
-settled_on m first r new limit left c g s = record { config = g.config; stands = s; rest = g.rest }
+pub settled_on : (m : Module) (room : ℕ) (first r new : Run) (limit left : ℕ) (c : Config) (g : GoesOn m room first limit left c r) → Stands m new g.config → GoesOn m room first limit left c new
+settled_on m room first r new limit left c g s = record { config = g.config; stands = s; rest = g.rest }
 
-pub went_on : (m : Module) (first r new : Run) (limit left : ℕ) (c : Config) → 0 < left → length_of r.state.memory ≡ length_of first.state.memory → SameRooms first r → (g : GoesOn m first limit left c r) → StepsTo m g.config r new → GoesOn m first limit (left - 1) c new
-went_on m first r new limit left c l size room g s =
+pub went_on : (m : Module) (room : ℕ) (first r new : Run) (limit left : ℕ) (c : Config) → 0 < left → SameRooms first r → (g : GoesOn m room first limit left c r)
+    → StepsTo m room g.config r new → GoesOn m room first limit (left - 1) c new
+went_on m room first r new limit left c l same g s =
     let n = left - 1 in
     let e : left ≡ suc n = omega arith in
     let d = g.config in
     record {
       config = s.0;
       stands = s.1;
-      rest = sym (at_first m first r n s.0 size room) ∙ sym (s.2 n) ∙ at_first m first r (suc n) d size room ∙ ap (λ k. runs m (pages_of first.state.memory) first.state.operands.room k d) (sym e) ∙ g.rest;
+      rest = sym (at_first m room first r n s.0 same) ∙ sym (s.2 n) ∙ at_first m room first r (suc n) d same ∙ ap (λ k. runs m room first.state.operands.room k d) (sym e) ∙ g.rest;
     }
 
-ended_on : (start : TheStore) (m : Module) (first r : Run) (limit left : ℕ) (c : Config) (end : RunEnd) (e : MachineEnd) (s : TheStore) → 0 < left → length_of r.state.memory ≡ length_of first.state.memory → SameRooms first r → (g : GoesOn m first limit left c r) → ((n : ℕ) → runs_from m r (suc n) g.config ≡ end) → EndsAs start end e s → EndsAs start (runs m (pages_of first.state.memory) first.state.operands.room limit c) e s
-ended_on start m first r limit left c end e s l size room g h x =
+ended_on : (start : TheStore) (m : Module) (room : ℕ) (first r : Run) (limit left : ℕ) (c : Config) (end : RunEnd) (e : MachineEnd) (s : TheStore) → 0 < left → SameRooms first r
+    → (g : GoesOn m room first limit left c r) → ((n : ℕ) → runs_from m room r (suc n) g.config ≡ end) → EndsAs start end e s
+    → EndsAs start (runs m room first.state.operands.room limit c) e s
+ended_on start m room first r limit left c end e s l same g h x =
     let n = left - 1 in
     let k : left ≡ suc n = omega arith in
     let d = g.config in
-    let all : runs m (pages_of first.state.memory) first.state.operands.room limit c ≡ end =
-    sym g.rest ∙ ap (λ j. runs m (pages_of first.state.memory) first.state.operands.room j d) k ∙ sym (at_first m first r (suc n) d size room) ∙ h n in
+    let all : runs m room first.state.operands.room limit c ≡ end =
+    sym g.rest ∙ ap (λ j. runs m room first.state.operands.room j d) k ∙ sym (at_first m room first r (suc n) d same) ∙ h n in
     subst (λ v. EndsAs start v e s) (sym all) x
 
 -- the end by a trap
@@ -98,19 +102,27 @@ trap_back OfOutOfBounds = refl
 pub trapped_as : (start : TheStore) (k : TheKind) (s : TheStore) → EndsAs start (Trapped (kind_of k) s) (DoesTrap k) s
 trapped_as start k s = (sym (ap DoesTrap (trap_back k)), refl)
 
-pub closed_on : (start : TheStore) (m : Module) (first r new : Run) (limit left : ℕ) (c : Config) (flow : Flow) (e : MachineEnd) → 0 < left → length_of r.state.memory ≡ length_of first.state.memory → SameRooms first r → (g : GoesOn m first limit left c r) → (flow ≡ FlowSettles → ⊥) → (flow ≡ FlowGoes → ⊥) → (flow ≡ FlowMoves → ⊥) → Advances m g.config flow r new → Closes start flow (results_of new.result) (store_of new.state) e → EndsAs start (runs m (pages_of first.state.memory) first.state.operands.room limit c) e (store_of new.state)
-closed_on start m first r new limit left c FlowSettles e l size room g settles goes moves a x = absurd (settles refl)
-closed_on start m first r new limit left c FlowGoes e l size room g settles goes moves a x = absurd (goes refl)
-closed_on start m first r new limit left c FlowMoves e l size room g settles goes moves a x = absurd (moves refl)
-closed_on start m first r new limit left c FlowFull e l size room g settles goes moves a x = ended_on start m first r limit left c (StackFull (store_of new.state)) e (store_of new.state) l size room g a x
-closed_on start m first r new limit left c FlowFinishes e l size room g settles goes moves a x = ended_on start m first r limit left c (returned (results_of new.result) (store_of new.state)) e (store_of new.state) l size room g a x
-closed_on start m first r new limit left c (FlowTraps k) e l size room g settles goes moves a x = ended_on start m first r limit left c (Trapped (kind_of k) (store_of new.state)) e (store_of new.state) l size room g a x
-closed_on start m first r new limit left c FlowStuck e l size room g settles goes moves a x = ended_on start m first r limit left c (Stuck (store_of new.state)) e (store_of new.state) l size room g a x
+pub closed_on : (start : TheStore) (m : Module) (room : ℕ) (first r new : Run) (limit left : ℕ) (c : Config) (flow : Flow) (e : MachineEnd) → 0 < left → SameRooms first r
+    → (g : GoesOn m room first limit left c r) → (flow ≡ FlowSettles → ⊥) → (flow ≡ FlowGoes → ⊥) → (flow ≡ FlowMoves → ⊥) → Advances m room g.config flow r new
+    → Closes start flow (results_of new.result) (store_of new.state) e → EndsAs start (runs m room first.state.operands.room limit c) e (store_of new.state)
+closed_on start m room first r new limit left c FlowSettles e l same g settles goes moves a x = absurd (settles refl)
+closed_on start m room first r new limit left c FlowGoes e l same g settles goes moves a x = absurd (goes refl)
+closed_on start m room first r new limit left c FlowMoves e l same g settles goes moves a x = absurd (moves refl)
+closed_on start m room first r new limit left c FlowFull e l same g settles goes moves a x =
+    ended_on start m room first r limit left c (StackFull (store_of new.state)) e (store_of new.state) l same g a x
+closed_on start m room first r new limit left c FlowFinishes e l same g settles goes moves a x =
+    ended_on start m room first r limit left c (returned (results_of new.result) (store_of new.state)) e (store_of new.state) l same g a x
+closed_on start m room first r new limit left c (FlowTraps k) e l same g settles goes moves a x =
+    ended_on start m room first r limit left c (Trapped (kind_of k) (store_of new.state)) e (store_of new.state) l same g a x
+closed_on start m room first r new limit left c FlowStuck e l same g settles goes moves a x =
+    ended_on start m room first r limit left c (Stuck (store_of new.state)) e (store_of new.state) l same g a x
 
-pub ended_at : (start : TheStore) (m : Module) (first r new : Run) (limit left : ℕ) (c : Config) (e : MachineEnd) → left ≡ 0 → length_of r.state.memory ≡ length_of first.state.memory → SameRooms first r → (g : GoesOn m first limit left c r) → EndsAs start (runs m (pages_of r.state.memory) r.state.operands.room 0 g.config) e (store_of new.state) → EndsAs start (runs m (pages_of first.state.memory) first.state.operands.room limit c) e (store_of new.state)
-ended_at start m first r new limit left c e z size room g h =
-    let all : runs m (pages_of r.state.memory) r.state.operands.room 0 g.config ≡ runs m (pages_of first.state.memory) first.state.operands.room limit c =
-    at_first m first r 0 g.config size room ∙ ap (λ j. runs m (pages_of first.state.memory) first.state.operands.room j g.config) (sym z) ∙ g.rest in
+pub ended_at : (start : TheStore) (m : Module) (room : ℕ) (first r new : Run) (limit left : ℕ) (c : Config) (e : MachineEnd) → left ≡ 0 → SameRooms first r
+    → (g : GoesOn m room first limit left c r) → EndsAs start (runs m room r.state.operands.room 0 g.config) e (store_of new.state)
+    → EndsAs start (runs m room first.state.operands.room limit c) e (store_of new.state)
+ended_at start m room first r new limit left c e z same g h =
+    let all : runs m room r.state.operands.room 0 g.config ≡ runs m room first.state.operands.room limit c =
+    at_first m room first r 0 g.config same ∙ ap (λ j. runs m room first.state.operands.room j g.config) (sym z) ∙ g.rest in
     subst (λ x. EndsAs start x e (store_of new.state)) all h
 
 -- ---- main
@@ -139,6 +151,7 @@ no_room m room s left args words n main body e h l k =
 pub whole_run : (m : Module) (room : ℕ) (s left : TheStore) (args : List ℤ) (words n : ℕ) (main : Main) (body : Code) (end : MachineEnd) → main_of m ≡ Some main → nested main.func.body ≡ Some body → EndsAs s (runs m room words n (first_config m 0 main args s body)) end left → EndsAs s (run_main m room s args words n) end left
 whole_run m room s left args words n main body end e h r = subst (λ x. EndsAs s x end left) (sym (run_main_is m room s args words n main body e h)) r
 
--- a run at the sizes before it began
-pub as_begun : (start : TheStore) (m : Module) (old mid : Run) (n : ℕ) (c : Config) (e : MachineEnd) (left : TheStore) → SameStore old.state mid.state → SameRooms old mid → EndsAs start (runs m (pages_of mid.state.memory) mid.state.operands.room n c) e left → EndsAs start (runs m (pages_of old.state.memory) old.state.operands.room n c) e left
-as_begun start m old mid n c e left same room h = subst (λ r. EndsAs start r e left) (at_first m old mid n c (ap length_of same.0) room) h
+-- a run with the words before it began
+pub as_begun : (start : TheStore) (m : Module) (room : ℕ) (old mid : Run) (n : ℕ) (c : Config) (e : MachineEnd) (left : TheStore) → SameRooms old mid
+    → EndsAs start (runs m room mid.state.operands.room n c) e left → EndsAs start (runs m room old.state.operands.room n c) e left
+as_begun start m room old mid n c e left same h = subst (λ r. EndsAs start r e left) (at_first m room old mid n c same) h

@@ -34,6 +34,7 @@ pub struct Machine {
 
 impl Model for Machine {
     ghost use Rattle.wb_plain.specs.Follows.{store_of};
+    ghost use Rattle.wb_syntax.specs.Runs.{fixed_room};
     ghost use Rattle.wb_control.specs.Stands.{AllLead};
     ghost use Rattle.wb_machine.specs.Model.{Machine-model};
     ghost use Rattle.wb_machine.specs.Inside.{IsFor, HasFewParameters};
@@ -42,7 +43,7 @@ impl Model for Machine {
 
     ghost view = { λ a. record { module_ = a.module; words = a.words; store = store_of a.run.state } };
 
-    ghost invariant = { λ a. ∥ AllLead a.module a.jumps ∥₁ × IsFor a.module a.words a.run × ∥ HasFewParameters a.module ∥₁ };
+    ghost invariant = { λ a. ∥ AllLead a.module a.jumps ∥₁ × IsFor a.module (fixed_room a.module) a.words a.run × ∥ HasFewParameters a.module ∥₁ };
 }
 
 /// The 32-bit word at address 0, or 0 where there is none.

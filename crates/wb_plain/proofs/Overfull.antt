@@ -1,23 +1,23 @@
 -- No instruction that writes to memory or to a global leaves more words than it found, so what leaves too many keeps the store.
-use Rattle.std.proofs.Common.{◌≡◌, ℕ, ◌+◌, ◌≤◌, List, [], ◌∷◌, length, arith, refl, ap}
-use Rattle.std.specs.Prelude.{false, Option, Some, None}
+use Rattle.std.proofs.Common.{◌≡◌, ℕ, ◌+◌, ◌/◌, ◌<◌, ◌≤◌, List, [], ◌∷◌, length, arith, refl, ap}
+use Rattle.std.specs.Prelude.{Bool, true, false, nat_le, Option, Some, None}
 use Rattle.wb_syntax.specs.Table.{row_at}
-use Rattle.wb_syntax.specs.Execute.{Word}
+use Rattle.wb_syntax.specs.Execute.{Word, page}
 use Rattle.wb_state.specs.Words.{bits_as, replaced}
 use Rattle.wb_state.specs.Stack.{Stack, Taken, taken, take_from, take_word, with_above, height_of}
 use Rattle.wb_state.specs.Bytes.{written_at}
-use Rattle.wb_plain.specs.Syntax.{NumType, I32, Instr, GlobalSet, Store}
+use Rattle.wb_plain.specs.Syntax.{NumType, I32, Instr, GlobalSet, Store, MemoryGrow}
 use Rattle.wb_plain.specs.Rows.{Storing, store_types}
-use Rattle.wb_plain.specs.Effects.{State, Effect, Leaves, Trapping, Lost, with_operands, set_globals, global_set, store_written, store_based, store_taken, store_in, store_typed, effect, writes_store}
+use Rattle.wb_plain.specs.Effects.{State, Effect, Leaves, Trapping, Lost, with_operands, set_globals, global_set, store_written, store_based, store_taken, store_in, store_typed, grow_if, grow_taken, grow_in, effect}
 use Rattle.wb_plain.proofs.Meaning.{OverSpares}
 use Rattle.wb_plain.proofs.Writing.{Spares, spares}
 
 -- ---- words that are taken
 
--- what is left has as many words as before at most, and may have as many
+-- what is left has fewer words than before, and may have as many
 abbrev Lowers : Stack → Option Taken → Type 0
 Lowers o None = Unit {0}
-Lowers o (Some n) = (height_of n.left ≤ height_of o) × (n.left.most ≡ o.most)
+Lowers o (Some n) = (height_of n.left < height_of o) × (n.left.most ≡ o.most)
 
 taken_lowers : (o : Stack) (w : Word) (ws : List Word) (b : Option ℕ) → o.above ≡ w ∷ ws → Lowers o (taken b (with_above o ws))
 taken_lowers o w ws None e = tt
@@ -53,7 +53,9 @@ based_over l offset value memory s o (Some b) h e k =
 
 taken_over : (l : Storing) (offset : ℕ) (memory : List ℕ) (s : State) (v : Option Taken) → Lowers s.operands v → OverSpares s (store_taken l offset memory s v)
 taken_over l offset memory s None k = tt
-taken_over l offset memory s (Some v) k = based_over l offset v.bits memory s v.left (take_word I32 v.left) k.0 k.1 (word_lowers I32 v.left)
+taken_over l offset memory s (Some v) k =
+    let j = k.0 in
+    based_over l offset v.bits memory s v.left (take_word I32 v.left) (omega (arith, j)) k.1 (word_lowers I32 v.left)
 
 in_over : (l : Storing) (offset : ℕ) (s : State) (memory : Option (List ℕ)) → OverSpares s (store_in l offset s memory)
 in_over l offset s None = tt
@@ -63,6 +65,18 @@ typed_over : (offset : ℕ) (s : State) (l : Option Storing) → OverSpares s (s
 typed_over offset s None = tt
 typed_over offset s (Some l) = in_over l offset s s.memory
 
+if_over : (s : State) (o : Stack) (b : Bool) (n : ℕ) (memory : List ℕ) → height_of o < height_of s.operands → o.most ≡ s.operands.most → OverSpares s (grow_if b n memory (with_operands s o))
+if_over s o true n memory h e = λ over most. absurd (omega (arith, over, most, h, e))
+if_over s o false n memory h e = λ over most. (refl, refl)
+
+grow_over : (room : ℕ) (memory : List ℕ) (s : State) (n : Option Taken) → Lowers s.operands n → OverSpares s (grow_taken room memory s n)
+grow_over room memory s None k = tt
+grow_over room memory s (Some n) k = if_over s n.left (nat_le (length memory / page + n.bits) room) n.bits memory k.0 k.1
+
+grow_in_over : (room : ℕ) (s : State) (memory : Option (List ℕ)) → OverSpares s (grow_in room s memory)
+grow_in_over room s None = tt
+grow_in_over room s (Some memory) = grow_over room memory s (take_word I32 s.operands) (word_lowers I32 s.operands)
+
 -- ---- all of them
 
 spared : (s : State) (e : Effect) → Spares s e → OverSpares s e
@@ -70,7 +84,8 @@ spared s (Leaves t) h = λ over most. h
 spared s (Trapping k) h = tt
 spared s Lost h = tt
 
-pub over_spares : (s : State) (i : Instr) → OverSpares s (effect i s)
-over_spares s (GlobalSet x) = global_over x s s.operands.above refl
-over_spares s (Store op align offset) = typed_over offset s (store_types (row_at op))
-over_spares s i = spared s (effect i s) (spares s i refl)
+pub over_spares : (room : ℕ) (s : State) (i : Instr) → OverSpares s (effect room i s)
+over_spares room s (GlobalSet x) = global_over x s s.operands.above refl
+over_spares room s (Store op align offset) = typed_over offset s (store_types (row_at op))
+over_spares room s MemoryGrow = grow_in_over room s s.memory
+over_spares room s i = spared s (effect room i s) (spares room s i refl)

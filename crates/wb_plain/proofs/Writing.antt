@@ -10,7 +10,7 @@ use Rattle.wb_state.specs.Stack.{Stack, Taken, take_word, with_above}
 use Rattle.wb_state.specs.Bytes.{read_at}
 use Rattle.wb_plain.specs.Syntax.{NumType, I32, Instr, Unreachable, Nop, Drop, Select, LocalGet, LocalSet, LocalTee, GlobalGet, GlobalSet, Load, Store, MemorySize, MemoryGrow, I32Const, I64Const, Unary, Binary}
 use Rattle.wb_plain.specs.Rows.{Operation, Loading, unary_types, binary_types, load_types}
-use Rattle.wb_plain.specs.Effects.{State, Effect, Leaves, Trapping, Lost, with_operands, yields, unary_taken, unary_typed, binary_second, binary_first, binary_typed, drop_from, chosen, select_one, select_from, select_taken, get, set_locals, local_set, local_tee, set_globals, load_read, load_taken, load_in, load_typed, store_written, size_in, grow_taken, grow_in, effect, SameStore, SameRoom, IsOverfull, Ends, has_effect, writes_store}
+use Rattle.wb_plain.specs.Effects.{State, Effect, Leaves, Trapping, Lost, with_operands, yields, unary_taken, unary_typed, binary_second, binary_first, binary_typed, drop_from, chosen, select_one, select_from, select_taken, get, set_locals, local_set, local_tee, set_globals, load_read, load_taken, load_in, load_typed, store_written, size_in, grow_if, effect, SameStore, SameRoom, IsOverfull, Ends, has_effect, writes_store}
 use Rattle.wb_plain.specs.Follows.{Keeps, is_step}
 use Rattle.wb_plain.specs.declared.outcome.Outcome.{Outcome}
 use Rattle.wb_plain.specs.declared.outcome.Outcome.TheVariants.{Goes, Full, Traps, Stuck}
@@ -25,6 +25,10 @@ written_has s (Some memory) = refl
 pub set_has : (s : State) (b : Bool) (ws : List Word) → has_effect (set_globals s (elim b [ true ↦ Some ws | false ↦ None ])) ≡ b
 set_has s true ws = refl
 set_has s false ws = refl
+
+pub grow_has : (b : Bool) (pages : ℕ) (memory : List ℕ) (s : State) → has_effect (grow_if b pages memory s) ≡ true
+grow_has true pages memory s = refl
+grow_has false pages memory s = refl
 
 -- ---- what does not write keeps the store
 
@@ -111,33 +115,25 @@ size_spares : (s : State) (o : Option (List ℕ)) → Spares s (size_in s o)
 size_spares s None = tt
 size_spares s (Some memory) = (refl, refl)
 
-grow_taken_spares : (memory : List ℕ) (s : State) (o : Option Taken) → Spares s (grow_taken memory s o)
-grow_taken_spares memory s None = tt
-grow_taken_spares memory s (Some n) = (refl, refl)
-
-grow_spares : (s : State) (o : Option (List ℕ)) → Spares s (grow_in s o)
-grow_spares s None = tt
-grow_spares s (Some memory) = grow_taken_spares memory s (take_word I32 s.operands)
-
-pub spares : (s : State) (i : Instr) → writes_store i ≡ false → Spares s (effect i s)
-spares s (I32Const z) h = (refl, refl)
-spares s (I64Const z) h = (refl, refl)
-spares s (Unary op) h = unary_spares (row_at op) s (unary_types (row_at op))
-spares s (Binary op) h = binary_spares (row_at op) s (binary_types (row_at op))
-spares s Drop h = drop_spares s s.operands.above
-spares s Select h = select_spares s (take_word I32 s.operands)
-spares s (LocalGet x) h = get_spares s (slice_get s.locals.current x)
-spares s (LocalSet x) h = local_set_spares x s s.operands.above
-spares s (LocalTee x) h = local_tee_spares x s s.operands.above
-spares s (GlobalGet x) h = get_spares s (slice_get s.globals x)
-spares s (GlobalSet x) h = cc
-spares s (Load op align offset) h = load_spares offset s (load_types (row_at op))
-spares s (Store op align offset) h = cc
-spares s MemorySize h = size_spares s s.memory
-spares s MemoryGrow h = grow_spares s s.memory
-spares s Nop h = (refl, refl)
-spares s Unreachable h = tt
-spares s _ h = tt
+pub spares : (room : ℕ) (s : State) (i : Instr) → writes_store i ≡ false → Spares s (effect room i s)
+spares room s (I32Const z) h = (refl, refl)
+spares room s (I64Const z) h = (refl, refl)
+spares room s (Unary op) h = unary_spares (row_at op) s (unary_types (row_at op))
+spares room s (Binary op) h = binary_spares (row_at op) s (binary_types (row_at op))
+spares room s Drop h = drop_spares s s.operands.above
+spares room s Select h = select_spares s (take_word I32 s.operands)
+spares room s (LocalGet x) h = get_spares s (slice_get s.locals.current x)
+spares room s (LocalSet x) h = local_set_spares x s s.operands.above
+spares room s (LocalTee x) h = local_tee_spares x s s.operands.above
+spares room s (GlobalGet x) h = get_spares s (slice_get s.globals x)
+spares room s (GlobalSet x) h = cc
+spares room s (Load op align offset) h = load_spares offset s (load_types (row_at op))
+spares room s (Store op align offset) h = cc
+spares room s MemorySize h = size_spares s s.memory
+spares room s MemoryGrow h = cc
+spares room s Nop h = (refl, refl)
+spares room s Unreachable h = tt
+spares room s _ h = tt
 
 -- ---- what a call answers
 
@@ -147,11 +143,11 @@ store_is Full e old new k h = h.1
 store_is (Traps x) e old new k h = h.1
 store_is Stuck e old new k h = h.1
 
-pub room_is : (r : Outcome) (e : Effect) (old new : State) → KeptBy old e → Ends r e old new → SameRoom old new
-room_is Goes e old new k h = let n : Keeps old new = subst (KeptBy old) h k in (n.room, n.local_room)
-room_is Full e old new k h = h.2
-room_is (Traps x) e old new k h = h.2
-room_is Stuck e old new k h = h.2
+pub room_is : (room : ℕ) (r : Outcome) (e : Effect) (old new : State) → KeptBy room old e → Ends r e old new → SameRoom old new
+room_is room Goes e old new k h = let n : Keeps room old new = subst (KeptBy room old) h k in (n.room, n.local_room)
+room_is room Full e old new k h = h.2
+room_is room (Traps x) e old new k h = h.2
+room_is room Stuck e old new k h = h.2
 
 -- there is an effect unless the call is stuck
 abbrev pub goes : Outcome → Bool

@@ -1,5 +1,5 @@
 -- What an instruction that is no jump does to a state.
-use Rattle.std.specs.Prelude.{◌≡◌, ℕ, ◌+◌, ◌-◌, ◌*◌, ◌/◌, ◌^◌, Bool, true, false, ◌==◌, List, [], ◌∷◌, length, Option, Some, None, slice_get}
+use Rattle.std.specs.Prelude.{◌≡◌, ℕ, ◌+◌, ◌-◌, ◌*◌, ◌/◌, ◌^◌, Bool, true, false, ◌==◌, nat_le, List, [], ◌∷◌, ◌++◌, length, replicate, Option, Some, None, slice_get}
 use Rattle.wb_plain.specs.Syntax.{NumType, I32, I64, Instr, Unreachable, Nop, Drop, Select, LocalGet, LocalSet, LocalTee, GlobalGet, GlobalSet, Load, Store, MemorySize, MemoryGrow, I32Const, I64Const, Unary, Binary}
 use Rattle.wb_syntax.specs.Table.{Row, row_at}
 use Rattle.wb_syntax.specs.Numbers.{Numeric, Yields, ByZero, TooLarge, unsigned, unary_by, binary_by}
@@ -173,42 +173,43 @@ abbrev pub size_in : State → Option (List ℕ) → Effect
 size_in s None = Lost
 size_in s (Some memory) = puts s (word I32 (length memory / page))
 
--- the size where a memory is to grow by no page, else -1
-abbrev pub grown : (pages size : ℕ) → ℕ
-grown pages size = elim (pages == 0) [ true ↦ size | false ↦ 2 ^ 32 - 1 ]
+-- so many pages of zeros more, where there is room for them: the old size is put on top, or else -1
+abbrev pub grow_if : Bool → (pages : ℕ) → List ℕ → State → Effect
+grow_if true pages memory s = puts (record s { memory = Some (memory ++ replicate (pages * page) 0) }) (word I32 (length memory / page))
+grow_if false pages memory s = puts s (word I32 (2 ^ 32 - 1))
 
--- a number of pages, which was taken
-abbrev pub grow_taken : List ℕ → State → Option Taken → Effect
-grow_taken memory s None = Lost
-grow_taken memory s (Some n) = puts (with_operands s n.left) (word I32 (grown n.bits (length memory / page)))
+-- by a number of pages, which was taken, where the memory then has at most `room` pages
+abbrev pub grow_taken : (room : ℕ) → List ℕ → State → Option Taken → Effect
+grow_taken room memory s None = Lost
+grow_taken room memory s (Some n) = grow_if (nat_le (length memory / page + n.bits) room) n.bits memory (with_operands s n.left)
 
--- a memory that does not grow
-abbrev pub grow_in : State → Option (List ℕ) → Effect
-grow_in s None = Lost
-grow_in s (Some memory) = grow_taken memory s (take_word I32 s.operands)
+-- a memory, where there is one, is to grow
+abbrev pub grow_in : (room : ℕ) → State → Option (List ℕ) → Effect
+grow_in room s None = Lost
+grow_in room s (Some memory) = grow_taken room memory s (take_word I32 s.operands)
 
 -- ---- all of them
 
--- what an instruction does that is no jump
-abbrev pub effect : Instr → State → Effect
-effect (I32Const z) s = puts s (word I32 (unsigned I32 z))
-effect (I64Const z) s = puts s (word I64 (unsigned I64 z))
-effect (Unary op) s = unary_typed (row_at op) s (unary_types (row_at op))
-effect (Binary op) s = binary_typed (row_at op) s (binary_types (row_at op))
-effect Drop s = drop_from s s.operands.above
-effect Select s = select_taken s (take_word I32 s.operands)
-effect (LocalGet x) s = get s (slice_get s.locals.current x)
-effect (LocalSet x) s = local_set x s s.operands.above
-effect (LocalTee x) s = local_tee x s s.operands.above
-effect (GlobalGet x) s = get s (slice_get s.globals x)
-effect (GlobalSet x) s = global_set x s s.operands.above
-effect (Load op align offset) s = load_typed offset s (load_types (row_at op))
-effect (Store op align offset) s = store_typed offset s (store_types (row_at op))
-effect MemorySize s = size_in s s.memory
-effect MemoryGrow s = grow_in s s.memory
-effect Nop s = Leaves s
-effect Unreachable s = Trapping Unreached
-effect _ s = Lost
+-- what an instruction does that is no jump, where the memory may have `room` pages
+abbrev pub effect : (room : ℕ) → Instr → State → Effect
+effect room (I32Const z) s = puts s (word I32 (unsigned I32 z))
+effect room (I64Const z) s = puts s (word I64 (unsigned I64 z))
+effect room (Unary op) s = unary_typed (row_at op) s (unary_types (row_at op))
+effect room (Binary op) s = binary_typed (row_at op) s (binary_types (row_at op))
+effect room Drop s = drop_from s s.operands.above
+effect room Select s = select_taken s (take_word I32 s.operands)
+effect room (LocalGet x) s = get s (slice_get s.locals.current x)
+effect room (LocalSet x) s = local_set x s s.operands.above
+effect room (LocalTee x) s = local_tee x s s.operands.above
+effect room (GlobalGet x) s = get s (slice_get s.globals x)
+effect room (GlobalSet x) s = global_set x s s.operands.above
+effect room (Load op align offset) s = load_typed offset s (load_types (row_at op))
+effect room (Store op align offset) s = store_typed offset s (store_types (row_at op))
+effect room MemorySize s = size_in s s.memory
+effect room MemoryGrow s = grow_in room s s.memory
+effect room Nop s = Leaves s
+effect room Unreachable s = Trapping Unreached
+effect room _ s = Lost
 
 -- ---- what a call answers
 
@@ -246,8 +247,9 @@ abbrev pub has_effect : Effect → Bool
 has_effect Lost = false
 has_effect _ = true
 
--- instructions that write to memory or to a global
+-- instructions that may write to memory or to a global, or make memory larger
 abbrev pub writes_store : Instr → Bool
 writes_store (GlobalSet x) = true
 writes_store (Store op align offset) = true
+writes_store MemoryGrow = true
 writes_store _ = false

@@ -1,6 +1,6 @@
 //! Loads, stores and the size of the memory.
 
-ghost use Rattle.std.specs.Prelude.{◌≡◌, ◌*◌, ◌-◌, ◌<◌, ◌≤◌, ◌^◌};
+ghost use Rattle.std.specs.Prelude.{◌≡◌, ℕ, ◌*◌, ◌-◌, ◌<◌, ◌≤◌, ◌^◌};
 ghost use Rattle.wb_syntax.specs.declared.syntax.NumType.TheVariants.{I32};
 ghost use Rattle.wb_syntax.specs.Table.{row_at};
 ghost use Rattle.wb_syntax.specs.Numbers.{bits_of};
@@ -8,6 +8,7 @@ ghost use Rattle.wb_syntax.specs.Execute.{extended};
 ghost use Rattle.wb_state.specs.Bytes.{bytes_in};
 ghost use Rattle.wb_plain.specs.Rows.{sign_of, load_types, store_types};
 ghost use Rattle.wb_plain.specs.Effects.{Ends, SameStore, SameRoom, has_effect, load_typed, store_typed, size_in, grow_in};
+ghost use Rattle.wb_plain.specs.Follows.{pages_of};
 
 use crate::kinds::{LoadKind, load_kind, store_kind};
 use crate::numeric::put;
@@ -133,9 +134,9 @@ pub fn size(state: &mut State) -> Outcome
     put(state, Word::I32(pages))
 }
 
-/// Takes a number of pages, and puts the size of the memory where it is 0, else -1.
+/// Takes a number of pages for a memory whose room is its size: puts the size where the number is 0, else -1.
 pub fn grow(state: &mut State) -> Outcome
-    ensures { Ends result (grow_in state.old state.old.memory) state.old state.new }
+    ensures { Ends result (grow_in (pages_of state.old.memory) state.old state.old.memory) state.old state.new }
 {
     let Some(memory) = &state.memory else {
         return Outcome::Stuck;
@@ -149,4 +150,17 @@ pub fn grow(state: &mut State) -> Outcome
     } else {
         put(state, Word::I32(u32::MAX))
     }
+}
+
+/// Whether `memory.grow` has an effect, whatever the room of the memory; takes its operand alone.
+#[tactic(auto, using(crate::proofs::Writing::grow_has))]
+pub fn can_grow(state: &mut State) -> bool
+    ensures effect { (room : ℕ) → result ≡ has_effect (grow_in room state.old state.old.memory) }
+    ensures store { SameStore state.old state.new }
+    ensures room { SameRoom state.old state.new }
+{
+    if state.memory.is_none() {
+        return false;
+    }
+    state.operands.take(NumType::I32).is_some()
 }

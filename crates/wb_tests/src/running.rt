@@ -176,7 +176,7 @@ fn results(rt: HostRuntime) -> Result<(), Fail> {
 }
 
 /// A body, how many words and steps there may be, and how it ends on 5 and 8.
-const ENDS: [(&str, u8, u64, MachineEnd); 13] = [
+const ENDS: [(&str, u8, u64, MachineEnd); 14] = [
     // the frame has nine words, four of its own, four locals and a constant; its end is one step
     ("i64.const 07 end", 9, 1, MachineEnd::Returned(7)),
     ("i64.const 07 end", 9, 0, MachineEnd::StepLimit),
@@ -199,6 +199,13 @@ const ENDS: [(&str, u8, u64, MachineEnd); 13] = [
         "loop 40 br 00 end i64.const 07 end",
         99,
         99,
+        MachineEnd::StepLimit,
+    ),
+    // a step is left, which does not grow the memory
+    (
+        "i32.const 01 memory.grow 00 drop i64.const 07 end",
+        99,
+        0,
         MachineEnd::StepLimit,
     ),
     (

@@ -18,8 +18,8 @@ returns-then-writes_store-clause-step c =
     let named = sym c.in-Some.ensures.value in
     let there = sym c.in-Some-get.ensures.value in
     let straight = no_control i (sym c.writes_store.ensures ∙ c.if-writes_store.true) in
-    λ d nests leads s. has_straight m d f i r c.can_write.result named there straight (c.requires.settled f i named there) s
-    (λ e rest. c.can_write.ensures.effect ∙ sym (c.effects_are_steps.ensures.answer m e rest i r.state (is_straight i straight)))
+    λ d nests leads s. has_straight m (pages_of r.state.memory) d f i r c.can_write.result named there straight (c.requires.settled f i named there) s
+    (λ e rest. c.can_write.ensures.effect (pages_of r.state.memory) ∙ sym (c.effects_are_steps.ensures.answer m (pages_of r.state.memory) e rest i r.state (is_straight i straight)))
 
 pub returns-else-writes_store : goal.returns-else-writes_store
 returns-else-writes_store c =
@@ -37,7 +37,7 @@ returns-else-writes_store c =
     record {
       step = λ d nests leads s.
           subst (HasStep m (pages_of r.state.memory) d) (sym c.is_made.ensures)
-          (has_made m js d c.carry_out.result f.body i next r new refl (f, named, refl) there counts nests leads s c.carry_out.ensures);
-      store = spares c.carry_out.result m js next i r new counts (sym c.writes_store.ensures ∙ c.if-writes_store.false) c.carry_out.ensures;
-      room = (left c.carry_out.result m js next i r new refl small c.carry_out.ensures).room;
+          (has_made m (pages_of r.state.memory) js d c.carry_out.result f.body i next r new refl (f, named, refl) there counts nests leads s c.carry_out.ensures);
+      store = spares c.carry_out.result m (pages_of r.state.memory) js next i r new counts (sym c.writes_store.ensures ∙ c.if-writes_store.false) c.carry_out.ensures;
+      room = (left c.carry_out.result m (pages_of r.state.memory) js next i r new refl small c.carry_out.ensures).room;
     }

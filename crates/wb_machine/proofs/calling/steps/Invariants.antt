@@ -1,6 +1,6 @@
 use Rattle.std.proofs.Common.{◌≡◌, ◌+◌, ◌-◌, ◌*◌, ◌^◌}
 use Rattle.wb_syntax.specs.Execute.{Config}
-use Rattle.wb_plain.specs.Follows.{length_of}
+use Rattle.wb_plain.specs.Follows.{pages_of, length_of}
 use Rattle.wb_control.specs.Changes.{Fits, SameRooms}
 use Rattle.wb_control.specs.Stands.{HasBody, AllNested, AllLead, Stands}
 use Rattle.wb_machine.proofs.Steps.{GoesOn}
@@ -8,7 +8,7 @@ use Rattle.wb_machine.proofs.calling.steps.Given as goal
 
 abbrev pub invariant-loop-left : goal.invariant-loop-left
 invariant-loop-left l = record {
-  goes : (c : Config) → AllNested l.m → AllLead l.m l.jumps → Stands l.m l.fn.run c → GoesOn l.m l.fn.run l.limit l.left c l.run;
+  goes : (c : Config) → AllNested l.m → AllLead l.m l.jumps → Stands l.m l.fn.run c → GoesOn l.m (pages_of l.fn.run.state.memory) l.fn.run l.limit l.left c l.run;
   fits : Fits l.run;
   body : HasBody l.m l.run l.body;
   size : length_of l.run.state.memory ≡ length_of l.fn.run.state.memory;

@@ -8,8 +8,8 @@ use Rattle.wb_plain.proofs.laws.effects_are_steps.Goals as goal
 
 pub returns : goal.returns
 returns c = record {
-  follow = λ m d rest i o old new h e. follows_is o d rest (step_of m d rest i old) (effect i old) old new (means m d rest old i h) (over_spares old i) e;
-  keep = λ i o old new h e. (keeps_is o (effect i old) old new (kept old i h) e, room_is o (effect i old) old new (kept old i h) e);
-  spare = λ i o old new h e. store_is o (effect i old) old new (spares old i h) e;
-  answer = λ m d rest i s h. ap is_step (means m d rest s i h).0 ∙ step_is d rest s (effect i s);
+  follow = λ m room d rest i o old new h e. follows_is room o d rest (step_of m room d rest i old) (effect room i old) old new (means room m d rest old i h) (over_spares room old i) e;
+  keep = λ room i o old new h e. (keeps_is room o (effect room i old) old new (kept room old i h) e, room_is room o (effect room i old) old new (kept room old i h) e);
+  spare = λ room i o old new h e. store_is o (effect room i old) old new (spares room old i h) e;
+  answer = λ m room d rest i s h. ap is_step (means room m d rest s i h).0 ∙ step_is d rest s (effect room i s);
 }

@@ -1,8 +1,8 @@
-use Rattle.std.proofs.Common.{◌≡◌, ◌≤◌, length, refl, sym, ap, subst, ◌∙◌}
+use Rattle.std.proofs.Common.{◌≡◌, ◌≤◌, length, arith, refl, sym, ap, subst, ◌∙◌}
 use Rattle.wb_syntax.specs.declared.syntax.Module.{Module}
 use Rattle.wb_syntax.specs.Typing.{Memories}
 use Rattle.wb_syntax.specs.Execute.{TheStore}
-use Rattle.wb_syntax.specs.Runs.{memory_at_first}
+use Rattle.wb_syntax.specs.Runs.{memory_at_first, fixed_room}
 use Rattle.wb_plain.specs.Follows.{pages_of}
 use Rattle.wb_control.specs.Stands.{AllLead}
 use Rattle.wb_machine.specs.Inside.{HasFewParameters}
@@ -17,12 +17,14 @@ invariant_of-result c =
     let m = c.args.m in
     let r = c.in_ok-run.run' in
     let same = c.module-module.ensures.same in
-    let memory : r.state.memory ≡ memory_at_first m.memories = ap (λ (s : TheStore). s.memory) c.in_ok-run.ensures.store ∙ ap (λ (x : Module). memory_at_first x.memories) same in (
+    let memory : r.state.memory ≡ memory_at_first m.memories = ap (λ (s : TheStore). s.memory) c.in_ok-run.ensures.store ∙ ap (λ (x : Module). memory_at_first x.memories) same in
+    let size : pages_of r.state.memory ≡ fixed_room m = ap pages_of memory ∙ pages_at_first m.memories (c.module-module.ensures.valid Memories) in (
       ∣ subst (λ (x : Module). AllLead x c.in_ok-jumps.jumps) same c.in_ok-jumps.ensures ∣₁,
       record {
         roomy = c.in_ok-run.ensures.roomy;
         room = c.in_ok-run.ensures.words;
-        pages = ap pages_of memory ∙ pages_at_first m.memories (c.module-module.ensures.valid Memories);
+        first = omega (arith, size);
+        most = omega (arith, size);
       },
       ∣ subst HasFewParameters same (c.if-not-has_few_parameters.ensures refl) ∣₁,
     )
