@@ -1,7 +1,7 @@
 -- What holds of all that a grammar spells.
-use Rattle.std.proofs.Common.{◌≡◌, ℕ, zero, suc, List, [], ◌∷◌, ◌++◌, length, Bool, true, false, refl, sym, ap, ◌∙◌, subst}
+use Rattle.std.proofs.Common.{ℕ, zero, suc, List, [], ◌∷◌, true, false, sym, subst}
 use Rattle.std.specs.Prelude.{◌==◌}
-use Rattle.wb_syntax.specs.Grammar.{Fault, Malformed, Grammar, Splits, exact, refused, followed, mapped, by_byte, Case, among, one_of, index, times, vec, exactly, sized, at_start}
+use Rattle.wb_syntax.specs.Grammar.{Fault, Malformed, Grammar, exact, refused, followed, mapped, by_byte, Case, among, index, times, vec, exactly, sized}
 use Rattle.wb_syntax.specs.Binary.{Each}
 use Rattle.wb_encode.specs.Appended.{Every}
 

@@ -1,5 +1,5 @@
 -- The grammars of types, limits, globals, exports and bodies.
-use Rattle.std.proofs.Common.{◌≡◌, ℕ, ◌+◌, ◌<◌, ◌^◌, true, false, List, [], ◌∷◌, ◌++◌, length, Some, None, refl, sym, ap, ◌∙◌, subst, append-nil, append_assoc, arith, IsUtf8}
+use Rattle.std.proofs.Common.{◌≡◌, ℕ, ◌+◌, ◌<◌, ◌^◌, true, false, List, [], ◌∷◌, ◌++◌, length, Some, None, refl, sym, ap, ◌∙◌, append-nil, append_assoc, arith, IsUtf8}
 use Rattle.std.proofs.lemmas.Bool.{lt-ltb}
 use Rattle.std.specs.Prelude.{Bool, nat_lt}
 use Rattle.std.specs.Int.{from_bool}
@@ -25,8 +25,8 @@ func_type_is t rest s =
 pub no_result : (front : List ℕ) → index.Is 0 front → (followed index results).Is None front
 no_result front h = (0, (front, [], h, (refl, refl), sym (append-nil front)))
 
-pub one_result : (t : NumType) (front back : List ℕ) → index.Is 1 front → value_type.Is t back → (followed index results).Is (Some t) (front ++ back)
-one_result t front back h e = (1, (front, back, h, mapped_is Some value_type t back e, refl))
+pub one_result : (t : NumType) (bytes : List ℕ) → Splits bytes (index.Is 1) (value_type.Is t) → (followed index results).Is (Some t) bytes
+one_result t bytes h = (1, (h.0, h.1, h.2, mapped_is Some value_type t h.1 h.3, h.4))
 
 pub least_is : (l : Limits) (rest : List ℕ) → l.max ≡ None → index.Is l.min rest → limits.Is l (0 ∷ rest)
 least_is l rest e h =
@@ -45,28 +45,31 @@ each_instr (i ∷ is) bytes h = (h.0, h.1, h.2, each_instr is h.1 h.3, h.4)
 pub expression_is : (is : List Instr) (bytes : List ℕ) → IsWellNested is → EachSpelled instr.Is is bytes → expression.Is is bytes
 expression_is is bytes n h = (n, each_instr is bytes h)
 
-flag_is : (b : Bool) → mutability.Is b (from_bool b ∷ [])
+pub flag_is : (b : Bool) → mutability.Is b (from_bool b ∷ [])
 flag_is true = (1, [], refl, (refl, refl))
 flag_is false = (0, [], refl, (refl, refl))
 
-pub global_is : (g : Global) (flag : ℕ) (front back : List ℕ) → IsWellNested g.init → flag ≡ from_bool g.mutable → value_type.Is g.ty front → Splits back (λ bytes. bytes ≡ flag ∷ []) (EachSpelled instr.Is g.init) → global.Is g (front ++ back)
-global_is g flag front back n e t s =
-    let m : mutability.Is g.mutable s.0 = subst (λ (bs : List ℕ). mutability.Is g.mutable bs) (sym (s.2 ∙ ap (λ k. k ∷ []) e)) (flag_is g.mutable) in
-    (g.ty, (front, back, t, (g.mutable, (s.0, s.1, m, mapped_is (λ init. record { ty = g.ty; mutable = g.mutable; init = init }) expression g.init s.1 (expression_is g.init s.1 n s.3), s.4)), refl))
+abbrev pub GlobalParts : Global → List ℕ → Type 0
+GlobalParts g bytes = Splits bytes (value_type.Is g.ty) (λ back. Splits back (mutability.Is g.mutable) (EachSpelled instr.Is g.init))
+
+pub global_is : (g : Global) (bytes : List ℕ) → IsWellNested g.init → GlobalParts g bytes → global.Is g bytes
+global_is g bytes n h =
+    let s = h.3 in
+    (g.ty, (h.0, h.1, h.2, (g.mutable, (s.0, s.1, s.2, mapped_is (λ init. record { ty = g.ty; mutable = g.mutable; init = init }) expression g.init s.1 (expression_is g.init s.1 n s.3), s.4)), h.4))
 
 each_byte : (bs : List ℕ) → EachSpelled any_byte.Is bs bs
 each_byte [] = refl
 each_byte (b ∷ bs) = (b ∷ [], bs, (b, [], refl, (refl, refl)), each_byte bs, refl)
 
-pub name_is : (bs front back : List ℕ) → IsUtf8 bs → index.Is (length bs) front → back ≡ bs → name.Is bs (front ++ back)
-name_is bs front back u h e =
-    let all : VecSpelled any_byte.Is bs (front ++ back) = (front, bs, h, each_byte bs, ap (λ xs. front ++ xs) e) in
-    (bs, (front ++ back, [], vec_is any_byte bs (front ++ back) all, (u, refl, refl), sym (append-nil (front ++ back))))
+pub name_is : (bs bytes : List ℕ) → IsUtf8 bs → Splits bytes (index.Is (length bs)) (λ back. back ≡ bs) → name.Is bs bytes
+name_is bs bytes u h =
+    let all : VecSpelled any_byte.Is bs bytes = (h.0, bs, h.2, each_byte bs, h.4 ∙ ap (λ xs. h.0 ++ xs) h.3) in
+    (bs, (bytes, [], vec_is any_byte bs bytes all, (u, refl, refl), sym (append-nil bytes)))
 
-pub export_is : (e : Export) (front back : List ℕ) → name.Is e.name front → exported.Is e.what back → export.Is e (front ++ back)
-export_is e front back h g = (e.name, (front, back, h, mapped_is (λ w. record { name = e.name; what = w }) exported e.what back g, refl))
+pub export_is : (e : Export) (bytes : List ℕ) → Splits bytes (name.Is e.name) (exported.Is e.what) → export.Is e bytes
+export_is e bytes h = (e.name, (h.0, h.1, h.2, mapped_is (λ w. record { name = e.name; what = w }) exported e.what h.1 h.3, h.4))
 
-abbrev tested : Bool → Grammar (List LocalRun) → Grammar (List LocalRun)
+abbrev pub tested : Bool → Grammar (List LocalRun) → Grammar (List LocalRun)
 tested t g = elim t [ true ↦ g | false ↦ refused Malformed ]
 
 few_runs : (t : Bool) (x : List LocalRun) (g : Grammar (List LocalRun)) (bytes : List ℕ) → t ≡ true → g.Is x bytes → (tested t g).Is x bytes
@@ -110,7 +113,5 @@ contents_are f bytes n few h =
       ),
     )
 
-pub code_is : (f : Func) (inner bytes : List ℕ) → IsWellNested f.body → count_locals f.locals < 2 ^ 32 → Splits inner (VecSpelled SpellsRun f.locals) (EachSpelled instr.Is f.body) → SizedSpelled (λ held. held ≡ inner) bytes → code.Is (f.locals, f.body) bytes
-code_is f inner bytes n few h s =
-    let all = contents_are f inner n few h in
-    sized_is contents (f.locals, f.body) (λ held. held ≡ inner) bytes s (λ held e. subst (λ (bs : List ℕ). contents.Is (f.locals, f.body) bs) (sym e) all)
+pub code_is : (f : Func) (bytes : List ℕ) → IsWellNested f.body → count_locals f.locals < 2 ^ 32 → SizedSpelled (λ inner. Splits inner (VecSpelled SpellsRun f.locals) (EachSpelled instr.Is f.body)) bytes → code.Is (f.locals, f.body) bytes
+code_is f bytes n few s = sized_is contents (f.locals, f.body) (λ inner. Splits inner (VecSpelled SpellsRun f.locals) (EachSpelled instr.Is f.body)) bytes s (λ inner h. contents_are f inner n few h)

@@ -1,11 +1,19 @@
 -- Lemmas: what was appended, numbers, and the grammars of the parts.
+pub mod Shorter
 pub mod Appending
 pub mod Leb
 pub mod Spelled
+pub mod Parted
 pub mod Opcodes
 pub mod Items
+pub mod ItemsParted
+pub mod Rows
+pub mod OpcodesParted
 pub mod Each
 pub mod Ordered
+pub mod Whole
+pub mod Skimmed
+pub mod Canonical
 pub mod Holding
 pub mod Writable
 pub mod Validity

@@ -1,17 +1,14 @@
 -- Sections one after another, from the last one back.
-use Rattle.std.proofs.Common.{◌≡◌, ℕ, suc, ◌<◌, Bool, true, false, List, [], ◌∷◌, ◌++◌, length, Some, None, refl, sym, ap, ◌∙◌, subst, arith, append-nil}
+use Rattle.std.proofs.Common.{◌≡◌, ℕ, ◌<◌, Bool, true, false, List, [], ◌∷◌, ◌++◌, refl, sym, ap, ◌∙◌, subst, arith, append-nil}
 use Rattle.std.specs.Prelude.{◌==◌, nat_le}
 use Rattle.std.proofs.lemmas.Bool.Decides.{nat_tests}
 use Rattle.wb_syntax.specs.declared.syntax.FuncType.{FuncType}
-use Rattle.wb_syntax.specs.declared.syntax.Func.{Func}
 use Rattle.wb_syntax.specs.declared.syntax.Limits.{Limits}
 use Rattle.wb_syntax.specs.declared.syntax.Global.{Global}
 use Rattle.wb_syntax.specs.declared.syntax.Export.{Export}
-use Rattle.wb_syntax.specs.declared.syntax.Module.{Module}
 use Rattle.wb_syntax.specs.Grammar.{Grammar, Malformed, Splits, refused, among, vec, sized, index}
-use Rattle.wb_syntax.specs.Binary.{Section, Types, FuncTypes, Memories, Globals, Exports, Codes, Coded, Gathered, gather, gathered, joined, module_of, custom, by_id, section, last_after, AreSections, func_type, limits, global, export, code}
-use Rattle.wb_encode.specs.Appended.{EachSpelled, VecSpelled, SectionSpelled}
-use Rattle.wb_encode.specs.Encodable.{SpellsCode, types_of}
+use Rattle.wb_syntax.specs.Binary.{Section, Types, FuncTypes, Memories, Globals, Exports, Codes, Coded, Gathered, gather, gathered, custom, by_id, section, last_after, AreSections, func_type, limits, global, export, code}
+use Rattle.wb_encode.specs.Appended.{VecSpelled, SectionSpelled}
 use Rattle.wb_encode.proofs.Spelled.{mapped_is, vec_is, sized_is}
 
 -- the bytes are sections behind the one with this id, and they hold these parts
@@ -20,7 +17,7 @@ pub record Sectioned (last : ℕ) (all : Gathered) (bytes : List ℕ) : Type 0 w
   pub spelled : AreSections last sections bytes
   pub holds : gathered sections ≡ all
 
-abbrev ordered : Bool → Bool → Grammar Section → Grammar Section
+abbrev pub ordered : Bool → Bool → Grammar Section → Grammar Section
 ordered none late g = elim none [ true ↦ custom | false ↦ elim late [ true ↦ refused Malformed | false ↦ g ] ]
 
 in_time : (none late : Bool) (g : Grammar Section) (s : Section) (bytes : List ℕ) → none ≡ false → late ≡ false → g.Is s bytes → (ordered none late g).Is s bytes
@@ -62,60 +59,24 @@ prepend make g id next (x ∷ xs) front back less more some before at after with
       holds = ap (gather (make (x ∷ xs))) r.holds ∙ with_;
     }
 
--- the entries of the code section
-pub coded_of : List Func → List Coded
-coded_of [] = []
-coded_of (f ∷ fs) = (f.locals, f.body) ∷ coded_of fs
-
-coded_length : (fs : List Func) → length fs ≡ length (coded_of fs)
-unfolding coded_of
-coded_length [] = refl
-coded_length (f ∷ fs) = ap suc (coded_length fs)
-
-coded_each : (fs : List Func) (bytes : List ℕ) → EachSpelled SpellsCode fs bytes → EachSpelled code.Is (coded_of fs) bytes
-unfolding coded_of
-coded_each [] bytes h = h
-coded_each (f ∷ fs) bytes h = (h.0, h.1, h.2, coded_each fs h.1 h.3, h.4)
-
-coded_vec : (fs : List Func) (bytes : List ℕ) → VecSpelled SpellsCode fs bytes → VecSpelled code.Is (coded_of fs) bytes
-coded_vec fs bytes h = (h.0, h.1, subst (λ (n : ℕ). index.Is n h.0) (coded_length fs) h.2, coded_each fs h.1 h.3, h.4)
-
-coded_section : (fs : List Func) (bytes : List ℕ) → SectionSpelled 10 SpellsCode fs bytes → SectionSpelled 10 code.Is (coded_of fs) bytes
-unfolding coded_of
-coded_section [] bytes h = h
-coded_section (f ∷ fs) bytes h = (h.0, h.1, (h.2.0, h.2.1, coded_vec (f ∷ fs) h.2.0 h.2.2))
-
-joined_again : (fs : List Func) → joined (types_of fs) (coded_of fs) ≡ Some fs
-unfolding coded_of
-joined_again [] = refl
-joined_again (f ∷ fs) = ap (λ j. elim j [ None ↦ None | Some gs ↦ Some (record { ty = f.ty; locals = f.locals; body = f.body } ∷ gs) ]) (joined_again fs)
-
--- all parts of a module
-pub all_of_module : Module → Gathered
-all_of_module m = record { types = m.types; func_types = types_of m.funcs; memories = m.memories; globals = m.globals; exports = m.exports; codes = coded_of m.funcs }
-
-pub module_again : (m : Module) → module_of (all_of_module m) ≡ Some m
-unfolding all_of_module
-module_again m = ap (λ j. elim j [ None ↦ None | Some fs ↦ Some (record { types = m.types; funcs = fs; memories = m.memories; globals = m.globals; exports = m.exports }) ]) (joined_again m.funcs)
-
 -- sections from these on
-abbrev pub FromCodes : Module → List ℕ → Type 0
-FromCodes m bytes = SectionSpelled 10 SpellsCode m.funcs bytes
+abbrev pub FromCodes : Gathered → List ℕ → Type 0
+FromCodes g bytes = SectionSpelled 10 code.Is g.codes bytes
 
-abbrev pub FromExports : Module → List ℕ → Type 0
-FromExports m bytes = Splits bytes (SectionSpelled 7 export.Is m.exports) (FromCodes m)
+abbrev pub FromExports : Gathered → List ℕ → Type 0
+FromExports g bytes = Splits bytes (SectionSpelled 7 export.Is g.exports) (FromCodes g)
 
-abbrev pub FromGlobals : Module → List ℕ → Type 0
-FromGlobals m bytes = Splits bytes (SectionSpelled 6 global.Is m.globals) (FromExports m)
+abbrev pub FromGlobals : Gathered → List ℕ → Type 0
+FromGlobals g bytes = Splits bytes (SectionSpelled 6 global.Is g.globals) (FromExports g)
 
-abbrev pub FromMemories : Module → List ℕ → Type 0
-FromMemories m bytes = Splits bytes (SectionSpelled 5 limits.Is m.memories) (FromGlobals m)
+abbrev pub FromMemories : Gathered → List ℕ → Type 0
+FromMemories g bytes = Splits bytes (SectionSpelled 5 limits.Is g.memories) (FromGlobals g)
 
-abbrev pub FromFuncTypes : Module → List ℕ → Type 0
-FromFuncTypes m bytes = Splits bytes (SectionSpelled 3 index.Is (types_of m.funcs)) (FromMemories m)
+abbrev pub FromFuncTypes : Gathered → List ℕ → Type 0
+FromFuncTypes g bytes = Splits bytes (SectionSpelled 3 index.Is g.func_types) (FromMemories g)
 
-abbrev pub FromTypes : Module → List ℕ → Type 0
-FromTypes m bytes = Splits bytes (SectionSpelled 1 func_type.Is m.types) (FromFuncTypes m)
+abbrev pub FromTypes : Gathered → List ℕ → Type 0
+FromTypes g bytes = Splits bytes (SectionSpelled 1 func_type.Is g.types) (FromFuncTypes g)
 
 abbrev parts : List FuncType → List ℕ → List Limits → List Global → List Export → List Coded → Gathered
 parts ts fs ms gs es cs = record { types = ts; func_types = fs; memories = ms; globals = gs; exports = es; codes = cs }
@@ -126,39 +87,32 @@ none_left last = record { sections = []; spelled = refl; holds = refl }
 at_end : (bytes : List ℕ) (last : ℕ) (all : Gathered) → Sectioned last all (bytes ++ []) → Sectioned last all bytes
 at_end bytes last all s = subst (λ (bs : List ℕ). Sectioned last all bs) (append-nil bytes) s
 
-codes_are : (m : Module) (bytes : List ℕ) → FromCodes m bytes → (last : ℕ) → last < 10 → Sectioned last (parts [] [] [] [] [] (coded_of m.funcs)) bytes
-codes_are m bytes h last later =
-    let cs = coded_of m.funcs in
-    at_end bytes last (parts [] [] [] [] [] cs)
-    (prepend Codes code 10 11 cs bytes [] (parts [] [] [] [] [] []) (parts [] [] [] [] [] cs) (omega arith) (omega arith) (mapped_is Codes (sized (vec code)) cs) (λ l. refl) refl (λ e. ap (λ c. parts [] [] [] [] [] c) (sym e)) (coded_section m.funcs bytes h) (λ l _. none_left l) last later)
+codes_are : (g : Gathered) (bytes : List ℕ) → FromCodes g bytes → (last : ℕ) → last < 10 → Sectioned last (parts [] [] [] [] [] g.codes) bytes
+codes_are g bytes h last later =
+    at_end bytes last (parts [] [] [] [] [] g.codes)
+    (prepend Codes code 10 11 g.codes bytes [] (parts [] [] [] [] [] []) (parts [] [] [] [] [] g.codes) (omega arith) (omega arith) (mapped_is Codes (sized (vec code)) g.codes) (λ l. refl) refl (λ e. ap (λ c. parts [] [] [] [] [] c) (sym e)) h (λ l _. none_left l) last later)
 
-exports_are : (m : Module) (bytes : List ℕ) → FromExports m bytes → (last : ℕ) → last < 7 → Sectioned last (parts [] [] [] [] m.exports (coded_of m.funcs)) bytes
-exports_are m bytes h last later =
-    let cs = coded_of m.funcs in
-    subst (λ (bs : List ℕ). Sectioned last (parts [] [] [] [] m.exports cs) bs) (sym h.4)
-    (prepend Exports export 7 10 m.exports h.0 h.1 (parts [] [] [] [] [] cs) (parts [] [] [] [] m.exports cs) (omega arith) (omega arith) (mapped_is Exports (sized (vec export)) m.exports) (λ l. refl) refl (λ e. ap (λ es. parts [] [] [] [] es cs) (sym e)) h.2 (codes_are m h.1 h.3) last later)
+exports_are : (g : Gathered) (bytes : List ℕ) → FromExports g bytes → (last : ℕ) → last < 7 → Sectioned last (parts [] [] [] [] g.exports g.codes) bytes
+exports_are g bytes h last later =
+    subst (λ (bs : List ℕ). Sectioned last (parts [] [] [] [] g.exports g.codes) bs) (sym h.4)
+    (prepend Exports export 7 10 g.exports h.0 h.1 (parts [] [] [] [] [] g.codes) (parts [] [] [] [] g.exports g.codes) (omega arith) (omega arith) (mapped_is Exports (sized (vec export)) g.exports) (λ l. refl) refl (λ e. ap (λ es. parts [] [] [] [] es g.codes) (sym e)) h.2 (codes_are g h.1 h.3) last later)
 
-globals_are : (m : Module) (bytes : List ℕ) → FromGlobals m bytes → (last : ℕ) → last < 6 → Sectioned last (parts [] [] [] m.globals m.exports (coded_of m.funcs)) bytes
-globals_are m bytes h last later =
-    let cs = coded_of m.funcs in
-    subst (λ (bs : List ℕ). Sectioned last (parts [] [] [] m.globals m.exports cs) bs) (sym h.4)
-    (prepend Globals global 6 7 m.globals h.0 h.1 (parts [] [] [] [] m.exports cs) (parts [] [] [] m.globals m.exports cs) (omega arith) (omega arith) (mapped_is Globals (sized (vec global)) m.globals) (λ l. refl) refl (λ e. ap (λ gs. parts [] [] [] gs m.exports cs) (sym e)) h.2 (exports_are m h.1 h.3) last later)
+globals_are : (g : Gathered) (bytes : List ℕ) → FromGlobals g bytes → (last : ℕ) → last < 6 → Sectioned last (parts [] [] [] g.globals g.exports g.codes) bytes
+globals_are g bytes h last later =
+    subst (λ (bs : List ℕ). Sectioned last (parts [] [] [] g.globals g.exports g.codes) bs) (sym h.4)
+    (prepend Globals global 6 7 g.globals h.0 h.1 (parts [] [] [] [] g.exports g.codes) (parts [] [] [] g.globals g.exports g.codes) (omega arith) (omega arith) (mapped_is Globals (sized (vec global)) g.globals) (λ l. refl) refl (λ e. ap (λ gs. parts [] [] [] gs g.exports g.codes) (sym e)) h.2 (exports_are g h.1 h.3) last later)
 
-memories_are : (m : Module) (bytes : List ℕ) → FromMemories m bytes → (last : ℕ) → last < 5 → Sectioned last (parts [] [] m.memories m.globals m.exports (coded_of m.funcs)) bytes
-memories_are m bytes h last later =
-    let cs = coded_of m.funcs in
-    subst (λ (bs : List ℕ). Sectioned last (parts [] [] m.memories m.globals m.exports cs) bs) (sym h.4)
-    (prepend Memories limits 5 6 m.memories h.0 h.1 (parts [] [] [] m.globals m.exports cs) (parts [] [] m.memories m.globals m.exports cs) (omega arith) (omega arith) (mapped_is Memories (sized (vec limits)) m.memories) (λ l. refl) refl (λ e. ap (λ ms. parts [] [] ms m.globals m.exports cs) (sym e)) h.2 (globals_are m h.1 h.3) last later)
+memories_are : (g : Gathered) (bytes : List ℕ) → FromMemories g bytes → (last : ℕ) → last < 5 → Sectioned last (parts [] [] g.memories g.globals g.exports g.codes) bytes
+memories_are g bytes h last later =
+    subst (λ (bs : List ℕ). Sectioned last (parts [] [] g.memories g.globals g.exports g.codes) bs) (sym h.4)
+    (prepend Memories limits 5 6 g.memories h.0 h.1 (parts [] [] [] g.globals g.exports g.codes) (parts [] [] g.memories g.globals g.exports g.codes) (omega arith) (omega arith) (mapped_is Memories (sized (vec limits)) g.memories) (λ l. refl) refl (λ e. ap (λ ms. parts [] [] ms g.globals g.exports g.codes) (sym e)) h.2 (globals_are g h.1 h.3) last later)
 
-func_types_are : (m : Module) (bytes : List ℕ) → FromFuncTypes m bytes → (last : ℕ) → last < 3 → Sectioned last (parts [] (types_of m.funcs) m.memories m.globals m.exports (coded_of m.funcs)) bytes
-func_types_are m bytes h last later =
-    let cs = coded_of m.funcs in
-    subst (λ (bs : List ℕ). Sectioned last (parts [] (types_of m.funcs) m.memories m.globals m.exports cs) bs) (sym h.4)
-    (prepend FuncTypes index 3 5 (types_of m.funcs) h.0 h.1 (parts [] [] m.memories m.globals m.exports cs) (parts [] (types_of m.funcs) m.memories m.globals m.exports cs) (omega arith) (omega arith) (mapped_is FuncTypes (sized (vec index)) (types_of m.funcs)) (λ l. refl) refl (λ e. ap (λ ts. parts [] ts m.memories m.globals m.exports cs) (sym e)) h.2 (memories_are m h.1 h.3) last later)
+func_types_are : (g : Gathered) (bytes : List ℕ) → FromFuncTypes g bytes → (last : ℕ) → last < 3 → Sectioned last (parts [] g.func_types g.memories g.globals g.exports g.codes) bytes
+func_types_are g bytes h last later =
+    subst (λ (bs : List ℕ). Sectioned last (parts [] g.func_types g.memories g.globals g.exports g.codes) bs) (sym h.4)
+    (prepend FuncTypes index 3 5 g.func_types h.0 h.1 (parts [] [] g.memories g.globals g.exports g.codes) (parts [] g.func_types g.memories g.globals g.exports g.codes) (omega arith) (omega arith) (mapped_is FuncTypes (sized (vec index)) g.func_types) (λ l. refl) refl (λ e. ap (λ ts. parts [] ts g.memories g.globals g.exports g.codes) (sym e)) h.2 (memories_are g h.1 h.3) last later)
 
-pub sections_are : (m : Module) (bytes : List ℕ) → FromTypes m bytes → Sectioned 0 (all_of_module m) bytes
-unfolding all_of_module
-sections_are m bytes h =
-    let cs = coded_of m.funcs in
-    subst (λ (bs : List ℕ). Sectioned 0 (parts m.types (types_of m.funcs) m.memories m.globals m.exports cs) bs) (sym h.4)
-    (prepend Types func_type 1 3 m.types h.0 h.1 (parts [] (types_of m.funcs) m.memories m.globals m.exports cs) (parts m.types (types_of m.funcs) m.memories m.globals m.exports cs) (omega arith) (omega arith) (mapped_is Types (sized (vec func_type)) m.types) (λ l. refl) refl (λ e. ap (λ ts. parts ts (types_of m.funcs) m.memories m.globals m.exports cs) (sym e)) h.2 (func_types_are m h.1 h.3) 0 (omega arith))
+pub sections_are : (g : Gathered) (bytes : List ℕ) → FromTypes g bytes → Sectioned 0 g bytes
+sections_are g bytes h =
+    subst (λ (bs : List ℕ). Sectioned 0 (parts g.types g.func_types g.memories g.globals g.exports g.codes) bs) (sym h.4)
+    (prepend Types func_type 1 3 g.types h.0 h.1 (parts [] g.func_types g.memories g.globals g.exports g.codes) (parts g.types g.func_types g.memories g.globals g.exports g.codes) (omega arith) (omega arith) (mapped_is Types (sized (vec func_type)) g.types) (λ l. refl) refl (λ e. ap (λ ts. parts ts g.func_types g.memories g.globals g.exports g.codes) (sym e)) h.2 (func_types_are g h.1 h.3) 0 (omega arith))

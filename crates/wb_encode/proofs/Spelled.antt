@@ -1,5 +1,5 @@
 -- What the grammars' combinators spell.
-use Rattle.std.proofs.Common.{◌≡◌, ℕ, List, [], ◌∷◌, length, refl, sym, ap, append-nil, subst, ◌<◌, arith}
+use Rattle.std.proofs.Common.{ℕ, List, [], ◌∷◌, length, refl, sym, ap, append-nil, subst, ◌<◌, arith}
 use Rattle.wb_syntax.specs.Grammar.{Grammar, mapped, times, vec, sized}
 use Rattle.wb_encode.specs.Appended.{EachSpelled, VecSpelled, SizedSpelled, SectionSpelled}
 
@@ -17,6 +17,6 @@ pub sized_is : {A : Type 0} (g : Grammar A) (x : A) (P : List ℕ → Type 0) (b
 sized_is g x P bytes h f = (length h.0, (h.1.0, h.1.1, h.1.2, (ap length h.1.3, subst (λ (bs : List ℕ). g.Is x bs) (sym h.1.3) (f h.0 h.2)), h.1.4))
 
 -- a section with elements
-pub section_is : {A : Type 0} (Spells : A → List ℕ → Type 0) (id : ℕ) (xs : List A) (inner rest : List ℕ) → 0 < length xs → VecSpelled Spells xs inner → SizedSpelled (λ held. held ≡ inner) rest → SectionSpelled id Spells xs (id ∷ rest)
-section_is Spells id [] inner rest lt h s = absurd (omega arith)
-section_is Spells id (x ∷ xs) inner rest lt h s = (rest, refl, (s.0, s.1, subst (λ (bs : List ℕ). VecSpelled Spells (x ∷ xs) bs) (sym s.2) h))
+pub section_is : {A : Type 0} (Spells : A → List ℕ → Type 0) (id : ℕ) (xs : List A) (rest : List ℕ) → 0 < length xs → SizedSpelled (VecSpelled Spells xs) rest → SectionSpelled id Spells xs (id ∷ rest)
+section_is Spells id [] rest lt h = absurd (omega arith)
+section_is Spells id (x ∷ xs) rest lt h = (rest, refl, h)

@@ -1,10 +1,10 @@
 -- A valid module meets what the encoder asks: its bodies are the nested code that is typed, and its initial values are constants.
-use Rattle.std.proofs.Common.{◌≡◌, ℕ, zero, suc, List, [], ◌∷◌, ◌++◌, refl, sym, subst}
+use Rattle.std.proofs.Common.{ℕ, suc, List, [], ◌∷◌, ◌++◌, refl, sym, subst}
 use Rattle.std.specs.Prelude.{IsTrue, Option, Some, None, IfSome, slice_get}
 use Rattle.wb_syntax.specs.declared.syntax.NumType.{NumType}
 use Rattle.wb_syntax.specs.declared.syntax.NumType.TheVariants.{I32, I64}
 use Rattle.wb_syntax.specs.declared.syntax.Instr.{Instr}
-use Rattle.wb_syntax.specs.declared.syntax.Instr.TheVariants.{If, Else, End, Block, Loop, Load, Store, Unary, Binary, I32Const, I64Const}
+use Rattle.wb_syntax.specs.declared.syntax.Instr.TheVariants.{Else, End, Load, Store, Unary, Binary}
 use Rattle.wb_syntax.specs.declared.syntax.Func.{Func}
 use Rattle.wb_syntax.specs.declared.syntax.Global.{Global}
 use Rattle.wb_syntax.specs.declared.syntax.Module.{Module}

@@ -1,22 +1,23 @@
 -- A module that has bytes meets what the encoder asks.
-use Rattle.std.proofs.Common.{◌≡◌, ℕ, zero, suc, ◌+◌, ◌^◌, ◌<◌, List, [], ◌∷◌, ◌++◌, Bool, true, false, refl, sym, ap, ◌∙◌, subst, arith, ℤ}
-use Rattle.std.specs.Prelude.{◌==◌, ◌&&◌, nat_lt, nat_le, Option, Some, None}
+use Rattle.std.proofs.Common.{◌≡◌, ℕ, zero, suc, ◌+◌, ◌^◌, ◌<◌, List, [], ◌∷◌, Bool, true, false, refl, ap, subst, arith, ℤ}
+use Rattle.std.specs.Prelude.{◌==◌, nat_lt, nat_le, Option, Some, None}
 use Rattle.std.proofs.lemmas.Bool.{ltb-true}
 use Rattle.wb_syntax.specs.declared.syntax.NumType.{NumType}
-use Rattle.wb_syntax.specs.declared.syntax.NumType.TheVariants.{I32, I64}
 use Rattle.wb_syntax.specs.declared.syntax.Instr.{Instr}
 use Rattle.wb_syntax.specs.declared.syntax.Instr.TheVariants.{BrTable, Load, Store, Unary, Binary}
 use Rattle.wb_syntax.specs.declared.syntax.LocalRun.{LocalRun}
 use Rattle.wb_syntax.specs.declared.syntax.Func.{Func}
 use Rattle.wb_syntax.specs.declared.syntax.Global.{Global}
 use Rattle.wb_syntax.specs.declared.syntax.Module.{Module}
-use Rattle.wb_syntax.specs.Table.{Row, Alone, WithResult, WithIndex, WithLabels, WithZero, Constant, Loads, Stores, Takes1, Takes2, Foreign, NoInstruction, from, control_rows, memory_rows, comparisons, arithmetic, numeric_rows, rows, is_float, row_among, row_at, Wrap, ExtendS, ExtendU}
+use Rattle.wb_syntax.specs.Table.{Row, Alone, WithResult, WithIndex, WithLabels, WithZero, Constant, Loads, Stores, Takes1, Takes2, Foreign, NoInstruction, control_rows, row_at}
 use Rattle.wb_syntax.specs.Nesting.{IsWellNested}
-use Rattle.wb_syntax.specs.Grammar.{Malformed, Outside, Floating, Import, Table, Start, Element, DataPart, Grammar, exact, case, followed, mapped, refused, by_byte, behind, index, signed_number, sized, vec, among, begins}
-use Rattle.wb_syntax.specs.Binary.{value_type, block_type, func_type, limits, name, export, mutability, row_grammar, instr, Each, expression, local_runs, Coded, code, global, Section, Custom, Types, FuncTypes, Memories, Globals, Exports, Codes, custom, by_id, in_order, section, last_after, AreSections, Gathered, gather, gathered, joined, module_of, Encodes}
+use Rattle.wb_syntax.specs.Grammar.{Malformed, Outside, Import, Table, Start, Element, DataPart, Grammar, exact, case, followed, mapped, refused, behind, index, signed_number, sized, vec, among, begins}
+use Rattle.wb_syntax.specs.Binary.{value_type, block_type, func_type, limits, name, export, mutability, row_grammar, instr, expression, local_runs, Coded, code, global, Section, Custom, Types, FuncTypes, Memories, Globals, Exports, Codes, custom, by_id, in_order, section, last_after, AreSections, Gathered, gather, gathered, joined}
 use Rattle.wb_encode.specs.Appended.{Every}
-use Rattle.wb_encode.specs.Encodable.{IsOfTable, loads, stores, takes_one, takes_two, count_locals, IsExpression, IsCode, IsInitialized}
+use Rattle.wb_encode.specs.Encodable.{IsOfTable, loads, stores, takes_one, takes_two, count_locals, IsExpression, IsInitialized}
 use Rattle.wb_encode.specs.Laws.{IsEncodable, EncodedIsEncodable}
+use Rattle.wb_encode.proofs.Parted.{some_is}
+use Rattle.wb_encode.proofs.Rows.{is_free, AllRows, row_has}
 use Rattle.wb_encode.proofs.Holding.{Holds, exact_holds, refused_holds, followed_holds, mapped_holds, by_byte_holds, AllHold, among_holds, Any, any_holds, vec_holds, sized_holds, each_holds}
 
 -- ---- instructions: what a row makes is of the table, where the row does not keep its opcode
@@ -29,67 +30,20 @@ IsFine (WithZero i) = IsOfTable i
 IsFine (Constant bits make) = (z : ℤ) → IsOfTable (make z)
 IsFine _ = Unit {0}
 
-abbrev AllFine : List (ℕ × Row) → Type 0
-AllFine [] = Unit {0}
-AllFine (r ∷ rs) = IsFine r.1 × AllFine rs
+free_fine : (b : ℕ) (r : Row) → is_free r ≡ true → IsFine r
+free_fine b (Loads t n e) h = tt
+free_fine b (Stores t n) h = tt
+free_fine b (Takes1 t r op) h = tt
+free_fine b (Takes2 t r op) h = tt
+free_fine b (Foreign what) h = tt
+free_fine b NoInstruction h = tt
+free_fine b _ h = cc
 
--- rows that keep their opcode
-abbrev keeps : Row → Bool
-keeps (Loads t n e) = true
-keeps (Stores t n) = true
-keeps (Takes1 t r op) = true
-keeps (Takes2 t r op) = true
-keeps _ = false
-
-abbrev all_keep : List Row → Bool
-all_keep [] = true
-all_keep (r ∷ rs) = elim (keeps r) [ true ↦ all_keep rs | false ↦ false ]
-
-keeps_fine : (r : Row) → keeps r ≡ true → IsFine r
-keeps_fine (Loads t n e) h = tt
-keeps_fine (Stores t n) h = tt
-keeps_fine (Takes1 t r op) h = tt
-keeps_fine (Takes2 t r op) h = tt
-keeps_fine _ h = cc
-
-head_keeps : (t more : Bool) → elim t [ true ↦ more | false ↦ false ] ≡ true → t ≡ true
-head_keeps true more h = refl
-head_keeps false more h = cc
-
-tail_keeps : (t more : Bool) → elim t [ true ↦ more | false ↦ false ] ≡ true → more ≡ true
-tail_keeps true more h = h
-tail_keeps false more h = cc
-
-keep_fine : (n : ℕ) (rs : List Row) → all_keep rs ≡ true → AllFine (from n rs)
-keep_fine n [] h = tt
-keep_fine n (r ∷ rs) h = (keeps_fine r (head_keeps (keeps r) (all_keep rs) h), keep_fine (suc n) rs (tail_keeps (keeps r) (all_keep rs) h))
-
-join_fine : (rs ss : List (ℕ × Row)) → AllFine rs → AllFine ss → AllFine (rs ++ ss)
-join_fine [] ss p q = q
-join_fine (r ∷ rs) ss p q = (p.0, join_fine rs ss p.1 q)
-
-control_fine : AllFine control_rows
+control_fine : AllRows (λ b r. IsFine r) control_rows
 control_fine = (tt, (tt, (λ t. tt, (λ t. tt, (λ t. tt, (tt, (tt, (λ n. tt, (λ n. tt, (tt, (tt, (λ n. tt, (tt, (tt, (tt, (λ n. tt, (λ n. tt, (λ n. tt, (λ n. tt, (λ n. tt, tt))))))))))))))))))))
 
-memory_fine : AllFine memory_rows
-memory_fine = (tt, (tt, (tt, (tt, (tt, (tt, (tt, (tt, (tt, (tt, (tt, (tt, (tt, (tt, (tt, (tt, (tt, (tt, (tt, (tt, (tt, tt)))))))))))))))))))))
-
-numeric_fine : AllFine numeric_rows
-numeric_fine =
-    let conversions : List (ℕ × Row) = (0xA7, Takes1 I64 I32 Wrap) ∷ (0xAC, Takes1 I32 I64 ExtendS) ∷ (0xAD, Takes1 I32 I64 ExtendU) ∷ [] in
-    let fine : AllFine conversions = (tt, (tt, (tt, tt))) in
-    let last : AllFine (from 0x79 (arithmetic I64) ++ conversions) = join_fine (from 0x79 (arithmetic I64)) conversions (keep_fine 0x79 (arithmetic I64) refl) fine in
-    let third : AllFine (from 0x67 (arithmetic I32) ++ (from 0x79 (arithmetic I64) ++ conversions)) = join_fine (from 0x67 (arithmetic I32)) (from 0x79 (arithmetic I64) ++ conversions) (keep_fine 0x67 (arithmetic I32) refl) last in
-    let second : AllFine (from 0x50 (comparisons I64) ++ (from 0x67 (arithmetic I32) ++ (from 0x79 (arithmetic I64) ++ conversions))) = join_fine (from 0x50 (comparisons I64)) (from 0x67 (arithmetic I32) ++ (from 0x79 (arithmetic I64) ++ conversions)) (keep_fine 0x50 (comparisons I64) refl) third in
-    (λ z. tt, (λ z. tt, join_fine (from 0x45 (comparisons I32)) (from 0x50 (comparisons I64) ++ (from 0x67 (arithmetic I32) ++ (from 0x79 (arithmetic I64) ++ conversions))) (keep_fine 0x45 (comparisons I32) refl) second))
-
-among_fine : (b : ℕ) (rs : List (ℕ × Row)) → AllFine rs → IsFine (row_among b rs)
-among_fine b [] p = elim (is_float b) as (λ t. IsFine (elim t [ true ↦ Foreign Floating | false ↦ NoInstruction ])) [ true ↦ tt | false ↦ tt ]
-among_fine b (r ∷ rs) p = elim (b == r.0) as (λ t. IsFine (elim t [ true ↦ r.1 | false ↦ row_among b rs ])) [ true ↦ p.0 | false ↦ among_fine b rs p.1 ]
-
 pub row_fine : (b : ℕ) → IsFine (row_at b)
-unfolding row_at
-row_fine b = among_fine b rows (join_fine control_rows (memory_rows ++ numeric_rows) control_fine (join_fine memory_rows numeric_rows memory_fine numeric_fine))
+row_fine b = row_has (λ b r. IsFine r) free_fine control_fine tt tt (λ z. tt) (λ z. tt) b
 
 zero_sound : (i : Instr) → IsOfTable i → Holds (behind 0x00 (exact i)) IsOfTable
 zero_sound i f = by_byte_holds IsOfTable (among (case 0x00 (exact i) ∷ [])) (among_holds IsOfTable (case 0x00 (exact i) ∷ []) (exact_holds IsOfTable i f, tt))
@@ -240,9 +194,6 @@ gathered_fine (s ∷ ss) h = gather_fine s (gathered ss) h.0 (gathered_fine ss h
 -- functions with their codes
 abbrev IsFineFunc : Func → Type 0
 IsFineFunc f = IsExpression f.body × (count_locals f.locals < 2 ^ 32)
-
-some_is : {A : Type 0} (x y : A) → Some x ≡ Some y → x ≡ y
-some_is x y e = cc
 
 abbrev func_of : ℕ → Coded → Func
 func_of t c = record { ty = t; locals = c.0; body = c.1 }

@@ -1,12 +1,17 @@
 -- What was written behind what stood there.
 use Rattle.std.specs.Prelude.{◌≡◌, ℕ, ◌<◌, List, [], ◌∷◌, ◌++◌, length, ℤ, pos, negsuc}
 use Rattle.wb_syntax.specs.Grammar.{Splits, index}
+use Rattle.wb_encode.specs.Shortest.{IsShortest}
 
 -- bytes of which this holds were appended
 pub record Appended (old new : List ℕ) (Holds : List ℕ → Type 0) : Type 0 where
   pub bytes : List ℕ
   pub joined : new ≡ old ++ bytes
   pub holds : Holds bytes
+
+-- the shortest spelling was appended
+abbrev pub Written : (old new : List ℕ) → (Spells : List ℕ → Type 0) → Type 0
+Written old new Spells = Appended old new (IsShortest Spells)
 
 -- it holds of each element
 abbrev pub Every : {A : Type 0} → (A → Type 0) → List A → Type 0

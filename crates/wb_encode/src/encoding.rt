@@ -1,6 +1,6 @@
 //! A module as bytes.
 ghost use Rattle.std.specs.Prelude.{IfOk, ◌++◌};
-ghost use Rattle.wb_syntax.specs.Binary.{Encodes};
+ghost use Rattle.wb_encode.specs.Shortest.{IsCanonical};
 ghost use Rattle.wb_encode.specs.Encodable.{AreBodiesWellNested, AreInitialValuesWellNested, AreOfTable, AreLocalsFew};
 
 use crate::sections::{push_section, push_type_indices};
@@ -18,7 +18,7 @@ pub fn encode(alloc: Global, m: &Module) -> Result<Vec<u8>, NoMemory>
     requires initial_values { AreInitialValuesWellNested m.now }
     requires instructions { AreOfTable m.now }
     requires locals { AreLocalsFew m.now }
-    ensures { IfOk result (λ bytes. Encodes m.now bytes.items) }
+    ensures { IfOk result (λ bytes. IsCanonical m.now bytes.items) }
 {
     match written(alloc, m) {
         Ok(bytes) => Ok(bytes),
@@ -32,7 +32,7 @@ fn written(alloc: Global, m: &Module) -> Result<Vec<u8>, AllocError>
     requires initial_values { AreInitialValuesWellNested m.now }
     requires instructions { AreOfTable m.now }
     requires locals { AreLocalsFew m.now }
-    ensures { IfOk result (λ bytes. Encodes m.now bytes.items) }
+    ensures { IfOk result (λ bytes. IsCanonical m.now bytes.items) }
 {
     let mut out = Vec::from_slice(alloc, &[0x00, 0x61, 0x73, 0x6D, 0x01, 0x00, 0x00, 0x00])?;
     push_section(alloc, &mut out, 1, m.types.as_slice())?;

@@ -2,7 +2,8 @@
 ghost use Rattle.std.specs.Prelude.{◌≡◌, ℕ, ℤ, ◌-◌, ◌^◌, OnOk, IsTrue, Option, [], ◌∷◌};
 ghost use Rattle.wb_syntax.specs.Table.{Alone, WithResult, WithIndex, WithZero, Constant, row_at};
 ghost use Rattle.wb_syntax.specs.Binary.{instr, block_type};
-ghost use Rattle.wb_encode.specs.Appended.{Appended, IsWithin};
+ghost use Rattle.wb_encode.specs.Shortest.{IsShortest};
+ghost use Rattle.wb_encode.specs.Appended.{Written, IsWithin};
 ghost use Rattle.wb_encode.specs.Encodable.{IsOfTable, loads, stores, takes_one, takes_two};
 
 use crate::numbers::{push_signed, push_unsigned};
@@ -50,7 +51,7 @@ impl Spell for Instr {
 
 // The opcode is the whole instruction.
 fn push_plain(out: &mut Vec<u8>, op: u8) -> Result<(), AllocError>
-    ensures { (i : Instr) → row_at op ≡ Alone i → OnOk result (Appended out.old.items out.new.items (instr.Is i)) }
+    ensures { (i : Instr) → row_at op ≡ Alone i → OnOk result (Written out.old.items out.new.items (instr.Is i)) }
 {
     out.push(op)?;
     Ok(())
@@ -58,8 +59,8 @@ fn push_plain(out: &mut Vec<u8>, op: u8) -> Result<(), AllocError>
 
 // An instruction that keeps its opcode, with one operand or with two.
 fn push_numeric(out: &mut Vec<u8>, op: u8) -> Result<(), AllocError>
-    ensures one { (i : Instr) → IsTrue (takes_one (row_at op)) → i ≡ Instr.Unary op → OnOk result (Appended out.old.items out.new.items (instr.Is i)) }
-    ensures two { (i : Instr) → IsTrue (takes_two (row_at op)) → i ≡ Instr.Binary op → OnOk result (Appended out.old.items out.new.items (instr.Is i)) }
+    ensures one { (i : Instr) → IsTrue (takes_one (row_at op)) → i ≡ Instr.Unary op → OnOk result (Written out.old.items out.new.items (instr.Is i)) }
+    ensures two { (i : Instr) → IsTrue (takes_two (row_at op)) → i ≡ Instr.Binary op → OnOk result (Written out.old.items out.new.items (instr.Is i)) }
 {
     out.push(op)?;
     Ok(())
@@ -67,7 +68,7 @@ fn push_numeric(out: &mut Vec<u8>, op: u8) -> Result<(), AllocError>
 
 // A block type follows.
 fn push_construct(out: &mut Vec<u8>, op: u8, t: Option<NumType>) -> Result<(), AllocError>
-    ensures { (i : Instr) (make : Option NumType → Instr) → row_at op ≡ WithResult make → i ≡ make t → OnOk result (Appended out.old.items out.new.items (instr.Is i)) }
+    ensures { (i : Instr) (make : Option NumType → Instr) → row_at op ≡ WithResult make → i ≡ make t → OnOk result (Written out.old.items out.new.items (instr.Is i)) }
 {
     let t = block_type_byte(t);
     out.push(op)?;
@@ -77,7 +78,7 @@ fn push_construct(out: &mut Vec<u8>, op: u8, t: Option<NumType>) -> Result<(), A
 
 // The byte of a block type.
 fn block_type_byte(t: Option<NumType>) -> u8
-    ensures { block_type.Is t (result ∷ []) }
+    ensures { IsShortest (block_type.Is t) (result ∷ []) }
 {
     match t {
         None => 0x40,
@@ -88,7 +89,7 @@ fn block_type_byte(t: Option<NumType>) -> u8
 
 // An index follows.
 fn push_indexed(out: &mut Vec<u8>, op: u8, n: u32) -> Result<(), AllocError>
-    ensures { (i : Instr) (make : ℕ → Instr) → row_at op ≡ WithIndex make → i ≡ make n → OnOk result (Appended out.old.items out.new.items (instr.Is i)) }
+    ensures { (i : Instr) (make : ℕ → Instr) → row_at op ≡ WithIndex make → i ≡ make n → OnOk result (Written out.old.items out.new.items (instr.Is i)) }
 {
     out.push(op)?;
     push_unsigned(out, n)?;
@@ -97,7 +98,7 @@ fn push_indexed(out: &mut Vec<u8>, op: u8, n: u32) -> Result<(), AllocError>
 
 // A branch by an index into a list of labels, and the label for all other indices.
 fn push_labels(out: &mut Vec<u8>, labels: &[u32], last: u32) -> Result<(), AllocError>
-    ensures { OnOk result (Appended out.old.items out.new.items (instr.Is (Instr.BrTable labels.now last))) }
+    ensures { OnOk result (Written out.old.items out.new.items (instr.Is (Instr.BrTable labels.now last))) }
 {
     out.push(0x0E)?;
     push_vec(out, labels)?;
@@ -107,8 +108,8 @@ fn push_labels(out: &mut Vec<u8>, labels: &[u32], last: u32) -> Result<(), Alloc
 
 // Alignment and offset of a load or a store follow.
 fn push_access(out: &mut Vec<u8>, op: u8, align: u32, offset: u32) -> Result<(), AllocError>
-    ensures load { (i : Instr) → IsTrue (loads (row_at op)) → i ≡ Instr.Load op align offset → OnOk result (Appended out.old.items out.new.items (instr.Is i)) }
-    ensures store { (i : Instr) → IsTrue (stores (row_at op)) → i ≡ Instr.Store op align offset → OnOk result (Appended out.old.items out.new.items (instr.Is i)) }
+    ensures load { (i : Instr) → IsTrue (loads (row_at op)) → i ≡ Instr.Load op align offset → OnOk result (Written out.old.items out.new.items (instr.Is i)) }
+    ensures store { (i : Instr) → IsTrue (stores (row_at op)) → i ≡ Instr.Store op align offset → OnOk result (Written out.old.items out.new.items (instr.Is i)) }
 {
     out.push(op)?;
     push_unsigned(out, align)?;
@@ -118,7 +119,7 @@ fn push_access(out: &mut Vec<u8>, op: u8, align: u32, offset: u32) -> Result<(),
 
 // The byte 00 follows.
 fn push_with_zero(out: &mut Vec<u8>, op: u8) -> Result<(), AllocError>
-    ensures { (i : Instr) → row_at op ≡ WithZero i → OnOk result (Appended out.old.items out.new.items (instr.Is i)) }
+    ensures { (i : Instr) → row_at op ≡ WithZero i → OnOk result (Written out.old.items out.new.items (instr.Is i)) }
 {
     out.push(op)?;
     out.push(0x00)?;
@@ -127,7 +128,7 @@ fn push_with_zero(out: &mut Vec<u8>, op: u8) -> Result<(), AllocError>
 
 // A signed number follows.
 fn push_constant(out: &mut Vec<u8>, op: u8, z: i64) -> Result<(), AllocError>
-    ensures { (i : Instr) (bits : ℕ) (make : ℤ → Instr) → row_at op ≡ Constant bits make → IsWithin (2 ^ (bits - 1)) z → i ≡ make z → OnOk result (Appended out.old.items out.new.items (instr.Is i)) }
+    ensures { (i : Instr) (bits : ℕ) (make : ℤ → Instr) → row_at op ≡ Constant bits make → IsWithin (2 ^ (bits - 1)) z → i ≡ make z → OnOk result (Written out.old.items out.new.items (instr.Is i)) }
 {
     out.push(op)?;
     push_signed(out, z)?;

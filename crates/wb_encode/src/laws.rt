@@ -1,6 +1,6 @@
 //! Laws, each proved as the contract of a function that does nothing.
 
-ghost use Rattle.wb_encode.specs.Laws.{EncodedIsEncodable, ValidIsEncodable};
+ghost use Rattle.wb_encode.specs.Laws.{EncodedIsEncodable, ValidIsEncodable, CanonicalIsOne, CanonicalHasItems};
 
 use wb_syntax::{typed_is_proper, well_nested_exactly};
 
@@ -16,3 +16,13 @@ pub fn valid_is_encodable()
     typed_is_proper();
     well_nested_exactly();
 }
+
+/// A module has one canonical list of bytes at most.
+pub fn canonical_is_one()
+    ensures { CanonicalIsOne }
+{}
+
+/// Canonical bytes have neither an empty section nor a custom one.
+pub fn canonical_has_items()
+    ensures { CanonicalHasItems }
+{}

@@ -13,4 +13,4 @@ mod spelling;
 
 pub use cf_base::NoMemory;
 pub use encoding::encode;
-pub use laws::{encoded_is_encodable, valid_is_encodable};
+pub use laws::{canonical_has_items, canonical_is_one, encoded_is_encodable, valid_is_encodable};

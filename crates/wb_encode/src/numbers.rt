@@ -2,13 +2,13 @@
 ghost use Rattle.std.specs.Prelude.{◌≡◌, ℕ, ◌-◌, ◌<◌, ◌^◌, OnOk, if◌then◌else◌};
 ghost use Rattle.std.specs.Int.{complement_if};
 ghost use Rattle.wb_syntax.specs.Grammar.{index, IsUnsigned, IsSigned};
-ghost use Rattle.wb_encode.specs.Appended.{Appended, IsWithin};
+ghost use Rattle.wb_encode.specs.Appended.{Written, IsWithin};
 
 use std::alloc::AllocError;
 
 /// Writes an unsigned number, whatever the bits of its type.
 pub fn push_unsigned(out: &mut Vec<u8>, n: u32) -> Result<(), AllocError>
-    ensures { OnOk result ((bits : ℕ) → n < 2 ^ bits → Appended out.old.items out.new.items (λ bytes. IsUnsigned bits bytes n)) }
+    ensures { OnOk result ((bits : ℕ) → n < 2 ^ bits → Written out.old.items out.new.items (λ bytes. IsUnsigned bits bytes n)) }
 {
     if n < 128 {
         out.push(n as u8)?;
@@ -22,7 +22,7 @@ pub fn push_unsigned(out: &mut Vec<u8>, n: u32) -> Result<(), AllocError>
 
 /// Writes a count of elements or bytes, and fails where it passes 32 bits.
 pub fn push_length(out: &mut Vec<u8>, n: usize) -> Result<(), AllocError>
-    ensures { OnOk result (Appended out.old.items out.new.items (index.Is n)) }
+    ensures { OnOk result (Written out.old.items out.new.items (index.Is n)) }
 {
     if n > 0xFFFF_FFFF {
         return Err(AllocError);
@@ -33,7 +33,7 @@ pub fn push_length(out: &mut Vec<u8>, n: usize) -> Result<(), AllocError>
 
 /// Writes a signed number, whatever the bits of its type.
 pub fn push_signed(out: &mut Vec<u8>, z: i64) -> Result<(), AllocError>
-    ensures { OnOk result ((bits : ℕ) → IsWithin (2 ^ (bits - 1)) z → Appended out.old.items out.new.items (λ bytes. IsSigned bits bytes z)) }
+    ensures { OnOk result ((bits : ℕ) → IsWithin (2 ^ (bits - 1)) z → Written out.old.items out.new.items (λ bytes. IsSigned bits bytes z)) }
 {
     if z < 0 {
         push_magnitude(out, true, !z as u64)?;
@@ -45,7 +45,7 @@ pub fn push_signed(out: &mut Vec<u8>, z: i64) -> Result<(), AllocError>
 
 // Writes m, or its complement -(m + 1).
 fn push_magnitude(out: &mut Vec<u8>, negative: bool, m: u64) -> Result<(), AllocError>
-    ensures { OnOk result ((bits : ℕ) → m < 2 ^ (bits - 1) → Appended out.old.items out.new.items (λ bytes. IsSigned bits bytes (complement_if negative m))) }
+    ensures { OnOk result ((bits : ℕ) → m < 2 ^ (bits - 1) → Written out.old.items out.new.items (λ bytes. IsSigned bits bytes (complement_if negative m))) }
 {
     let low = low_bits(negative, (m % 128) as u8);
     if m < 64 {

@@ -2,7 +2,8 @@
 ghost use Rattle.std.specs.Prelude.{◌≡◌, ◌++◌, [], ◌∷◌, length, OnOk, Option};
 ghost use Rattle.wb_syntax.specs.Grammar.{index, followed};
 ghost use Rattle.wb_syntax.specs.Binary.{value_type, results, func_type, limits, global, expression, export, exported, name};
-ghost use Rattle.wb_encode.specs.Appended.{Appended};
+ghost use Rattle.wb_encode.specs.Shortest.{IsShortest};
+ghost use Rattle.wb_encode.specs.Appended.{Written};
 ghost use Rattle.wb_encode.specs.Encodable.{Anything, IsInitialized, SpellsRun};
 
 use crate::numbers::{push_length, push_unsigned};
@@ -34,7 +35,7 @@ impl Spell for NumType {
 
 // The byte of a value type.
 fn type_byte(t: NumType) -> u8
-    ensures { value_type.Is t (result ∷ []) }
+    ensures { IsShortest (value_type.Is t) (result ∷ []) }
 {
     match t {
         NumType::I32 => 0x7F,
@@ -69,7 +70,7 @@ impl Spell for FuncType {
 
 // A vector of at most one type.
 fn push_result(out: &mut Vec<u8>, t: Option<NumType>) -> Result<(), AllocError>
-    ensures { OnOk result (Appended out.old.items out.new.items ((followed index results).Is t)) }
+    ensures { OnOk result (Written out.old.items out.new.items ((followed index results).Is t)) }
 {
     match t {
         None => {
@@ -133,7 +134,7 @@ impl Spell for Export {
 
 // The number of bytes, and the bytes.
 fn push_name(out: &mut Vec<u8>, text: &Name) -> Result<(), AllocError>
-    ensures { OnOk result (Appended out.old.items out.new.items (name.Is text.now)) }
+    ensures { OnOk result (Written out.old.items out.new.items (name.Is text.now)) }
 {
     let bytes = text.as_str().as_bytes();
     push_length(out, bytes.len())?;
@@ -143,7 +144,7 @@ fn push_name(out: &mut Vec<u8>, text: &Name) -> Result<(), AllocError>
 
 // The kind, and the index.
 fn push_exported(out: &mut Vec<u8>, what: Exported) -> Result<(), AllocError>
-    ensures { OnOk result (Appended out.old.items out.new.items (exported.Is what)) }
+    ensures { OnOk result (Written out.old.items out.new.items (exported.Is what)) }
 {
     match what {
         Exported::Func(f) => {

@@ -1,7 +1,7 @@
 //! Sections (the standard, 5.5.2), each with its size before its contents.
 ghost use Rattle.std.specs.Prelude.{◌≡◌, ◌++◌, [], ◌∷◌, length, map, OnOk};
 ghost use Rattle.wb_syntax.specs.Grammar.{index};
-ghost use Rattle.wb_encode.specs.Appended.{Appended, Every, VecSpelled, SizedSpelled, SectionSpelled};
+ghost use Rattle.wb_encode.specs.Appended.{Written, Every, VecSpelled, SizedSpelled, SectionSpelled};
 ghost use Rattle.wb_encode.specs.Encodable.{IsCode, SpellsCode, types_of};
 
 use crate::numbers::push_length;
@@ -17,7 +17,7 @@ pub fn push_section<T: Spell>(
     parts: &[T],
 ) -> Result<(), AllocError>
     requires { Every T.is_encodable parts.now }
-    ensures { OnOk result (Appended out.old.items out.new.items (SectionSpelled id T.spells parts.now)) }
+    ensures { OnOk result (Written out.old.items out.new.items (SectionSpelled id T.spells parts.now)) }
 {
     if parts.is_empty() {
         return Ok(());
@@ -31,7 +31,7 @@ pub fn push_section<T: Spell>(
 
 /// Writes the section of the functions' types, or nothing where there are no functions.
 pub fn push_type_indices(alloc: Global, out: &mut Vec<u8>, funcs: &[Func]) -> Result<(), AllocError>
-    ensures { OnOk result (Appended out.old.items out.new.items (SectionSpelled 3 index.Is (types_of funcs.now))) }
+    ensures { OnOk result (Written out.old.items out.new.items (SectionSpelled 3 index.Is (types_of funcs.now))) }
 {
     let types: Vec<u32> = funcs.iter().map(|f| f.ty).collect(alloc)?;
     push_section(alloc, out, 3, &types)?;
@@ -40,7 +40,7 @@ pub fn push_type_indices(alloc: Global, out: &mut Vec<u8>, funcs: &[Func]) -> Re
 
 /// Writes the size of contents, and the contents.
 pub fn push_sized(out: &mut Vec<u8>, contents: &Vec<u8>) -> Result<(), AllocError>
-    ensures { OnOk result (Appended out.old.items out.new.items (λ bytes. SizedSpelled (λ inner. inner ≡ contents.now.items) bytes)) }
+    ensures { OnOk result (Written out.old.items out.new.items (λ bytes. SizedSpelled (λ inner. inner ≡ contents.now.items) bytes)) }
 {
     push_length(out, contents.len())?;
     out.extend_from_slice(contents)?;

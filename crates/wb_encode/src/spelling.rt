@@ -1,6 +1,6 @@
 //! What can be written, and lists of it.
 ghost use Rattle.std.specs.Prelude.{OnOk};
-ghost use Rattle.wb_encode.specs.Appended.{Appended, EachSpelled, VecSpelled, Every};
+ghost use Rattle.wb_encode.specs.Appended.{Written, EachSpelled, VecSpelled, Every};
 
 use crate::numbers::push_length;
 use std::alloc::AllocError;
@@ -18,13 +18,13 @@ pub trait Spell {
     /// Writes the part at the end.
     fn push_to(&self, out: &mut Vec<u8>) -> Result<(), AllocError>
         requires { is_encodable self.now }
-        ensures { OnOk result (Appended out.old.items out.new.items (spells self.now)) };
+        ensures { OnOk result (Written out.old.items out.new.items (spells self.now)) };
 }
 
 /// Writes parts one after another.
 pub fn push_each<T: Spell>(out: &mut Vec<u8>, parts: &[T]) -> Result<(), AllocError>
     requires { Every T.is_encodable parts.now }
-    ensures { OnOk result (Appended out.old.items out.new.items (EachSpelled T.spells parts.now)) }
+    ensures { OnOk result (Written out.old.items out.new.items (EachSpelled T.spells parts.now)) }
 {
     for part in parts {
         part.push_to(out)?;
@@ -35,7 +35,7 @@ pub fn push_each<T: Spell>(out: &mut Vec<u8>, parts: &[T]) -> Result<(), AllocEr
 /// Writes a vector (the standard, 5.1.3): the number of parts, and the parts.
 pub fn push_vec<T: Spell>(out: &mut Vec<u8>, parts: &[T]) -> Result<(), AllocError>
     requires { Every T.is_encodable parts.now }
-    ensures { OnOk result (Appended out.old.items out.new.items (VecSpelled T.spells parts.now)) }
+    ensures { OnOk result (Written out.old.items out.new.items (VecSpelled T.spells parts.now)) }
 {
     push_length(out, parts.len())?;
     push_each(out, parts)?;

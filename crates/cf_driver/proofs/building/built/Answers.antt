@@ -27,7 +27,7 @@ returns-in-Ok-clause-module c =
       is_sum = l.is_sum;
       built = record {
         the_module = module_of l.sum;
-        encoded = subst (λ m. Encodes m c.in-Ok.bytes.items) l.same c.in-Ok.ensures;
+        encoded = subst (λ m. Encodes m c.in-Ok.bytes.items) l.same c.in-Ok.ensures.spells;
         valid = valid l.sum;
         same = ends_alike l.sum l.fit;
       };

@@ -1,11 +1,12 @@
-use Rattle.std.proofs.Common.{◌++◌, ap, ◌∙◌}
-use Rattle.wb_syntax.specs.Binary.{func_type, limits, global, export, module_of}
+use Rattle.std.proofs.Common.{◌++◌, ap, ◌∙◌, subst, sym}
+use Rattle.wb_syntax.specs.Binary.{func_type, limits, global, export}
 use Rattle.wb_encode.specs.Appended.{SectionSpelled}
-use Rattle.wb_encode.specs.Encodable.{SpellsCode}
+use Rattle.wb_encode.specs.Shortest.{IsCanonical}
+use Rattle.wb_encode.specs.Encodable.{SpellsCode, types_of}
 use Rattle.wb_syntax.specs.Grammar.{index}
-use Rattle.wb_encode.specs.Encodable.{types_of}
-use Rattle.wb_encode.proofs.Appending.{both, for_same}
-use Rattle.wb_encode.proofs.Ordered.{sections_are, module_again}
+use Rattle.wb_encode.proofs.Appending.{both, named, for_same}
+use Rattle.wb_encode.proofs.Whole.{coded_section, coded_section_back}
+use Rattle.wb_encode.proofs.Canonical.{canonical}
 use Rattle.wb_encode.proofs.encoding.written.Goals as goal
 
 pub returns : goal.returns
@@ -16,12 +17,5 @@ returns c =
     (both (for_same (SectionSpelled 5 limits.Is) c.as_slice-3.ensures c.in_ok-push_section-2.ensures)
     (both (for_same (SectionSpelled 6 global.Is) c.as_slice-4.ensures c.in_ok-push_section-3.ensures)
     (both (for_same (SectionSpelled 7 export.Is) c.as_slice-5.ensures c.in_ok-push_section-4.ensures)
-    (for_same (SectionSpelled 10 SpellsCode) c.as_slice-6.ensures c.in_ok-push_section-5.ensures))))) in
-    let are = sections_are m all.bytes all.holds in
-    record {
-      rest = all.bytes;
-      sections = are.sections;
-      begins = all.joined ∙ ap (λ xs. xs ++ all.bytes) c.in_ok-out.ensures.items;
-      spelled = are.spelled;
-      makes = ap module_of are.holds ∙ module_again m;
-    }
+    (named (for_same (SectionSpelled 10 SpellsCode) c.as_slice-6.ensures c.in_ok-push_section-5.ensures) (coded_section m) (coded_section_back m)))))) in
+    subst (IsCanonical m) (sym (all.joined ∙ ap (λ xs. xs ++ all.bytes) c.in_ok-out.ensures.items)) (canonical m all.bytes all.holds)

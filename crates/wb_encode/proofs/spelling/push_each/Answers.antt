@@ -1,4 +1,5 @@
 use Rattle.std.proofs.Common.{◌≤◌, length, arith, sym, subst}
+use Rattle.wb_encode.specs.Shortest.{IsShortest}
 use Rattle.wb_encode.proofs.Appending.{nothing, after, turned}
 use Rattle.wb_encode.proofs.Each.{Continues, every_at, continues_on, continues_to_end}
 use Rattle.wb_encode.proofs.spelling.push_each.Goals as goal
@@ -14,7 +15,7 @@ push_to-requires g c =
 pub loop-part-preserved : goal.loop-part-preserved
 loop-part-preserved g c =
     after c.loop-part.invariant c.in_ok-push_to.ensures
-    (λ done bytes inv s. continues_on g.T.Spell.spells c.args.parts.now c.loop-part.part-index c.part-item.result done bytes c.loop-part-test.true inv (subst (λ x. g.T.Spell.spells x bytes) c.part-item.is s))
+    (λ done bytes inv s. continues_on g.T.Spell.spells c.args.parts.now c.loop-part.part-index c.part-item.result done bytes c.loop-part-test.true inv (subst (λ x. IsShortest (g.T.Spell.spells x) bytes) c.part-item.is s))
 
 pub returns : goal.returns
 returns g c =

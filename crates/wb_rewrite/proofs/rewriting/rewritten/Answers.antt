@@ -17,5 +17,5 @@ pub returns-in-Ok-encode-clause-same : goal.returns-in-Ok-encode-clause-same
 returns-in-Ok-encode-clause-same c = record {
   the_module = c.in-Ok.module;
   read = (decoded_exactly c.in-Ok.module c.args.bytes.now).1 c.in-Ok.ensures;
-  written = c.in-Ok-encode.ensures;
+  written = c.in-Ok-encode.ensures.spells;
 }
