@@ -41,7 +41,7 @@ no_nil e = absurd (subst is_nil e tt)
     is_nil (x ∷ xs) = ⊥
 
 -- a token's meaning is of its symbol's kind
-token_fits : (y : Symbol) (c : Class) (p : At) (x : List ℕ) → Takes y c → in_range c x ≡ true → Fits (of_symbol y) (meant.token p c x)
+pub token_fits : (y : Symbol) (c : Class) (p : At) (x : List ℕ) → Takes y c → in_range c x ≡ true → Fits (of_symbol y) (meant.token p c x)
 token_fits _ _ p x any_name q = a_name
 token_fits _ (class.Name b) p x exact q = a_name
 token_fits _ class.Whole p x exact q = a_whole q
@@ -66,7 +66,7 @@ front_fits : (js os : List Kind) (vs : List Sem) → AllFit (js ++ os) vs → Al
 front_fits [] os vs h = end
 front_fits (j ∷ js) os _ (next f h) = next f (front_fits js os _ h)
 
-firsts_of : (us vs : List Sem) (n : ℕ) → length us ≡ n → firsts n (us ++ vs) ≡ us
+pub firsts_of : (us vs : List Sem) (n : ℕ) → length us ≡ n → firsts n (us ++ vs) ≡ us
 firsts_of [] vs zero e = refl
 firsts_of [] vs (suc n) e = absurd (omega (arith, e))
 firsts_of (u ∷ us) vs zero e = absurd (omega (arith, e))

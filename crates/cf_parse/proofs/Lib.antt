@@ -13,3 +13,5 @@ pub mod Declaring
 pub mod Reducing
 pub mod Taken
 pub mod Joined
+pub mod Keeping
+pub mod Listing

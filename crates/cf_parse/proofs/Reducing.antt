@@ -1,13 +1,12 @@
 -- A stack of meanings whose topmost ones are taken and make way for that of their phrase.
-use Rattle.std.proofs.Common.{◌≡◌, ◌∙◌, refl, ap, sym, ℕ, Bool, List, [], ◌∷◌, ◌++◌, drop, map, Option, Some, None}
+use Rattle.std.proofs.Common.{◌≡◌, ◌∙◌, refl, ap, sym, ℕ, Bool, List, [], ◌∷◌, drop, map, Option, Some, None}
 use Rattle.std.specs.Prelude.{Box}
 use Rattle.std.specs.declared.alloc.Global.{Global}
 use Rattle.cf_base.specs.declared.at.At.{At}
 use Rattle.cf_tree.specs.declared.forms.Branch.{Branch}
 use Rattle.cf_tree.specs.declared.heads.Head.TheVariants as head
-use Rattle.cf_tree.specs.declared.forms.Definition.{Definition}
-use Rattle.cf_tree.specs.Tree.{Plain, Tree, branch, none, part, tree}
-use Rattle.cf_tree.specs.View.{Text, binder_of, binders_of, branches, definitions, variables}
+use Rattle.cf_tree.specs.Tree.{Plain, Tree, branch, part, tree}
+use Rattle.cf_tree.specs.View.{Text, binder_of, binders_of, branches}
 use Rattle.cf_parse.proofs.Taken.{eight, five, four, made, name_class, one, retold, seven, three, two}
 use Rattle.cf_parse.specs.Evaluation.{first_token, firsts}
 use Rattle.cf_parse.specs.Kinds as kind
@@ -63,8 +62,3 @@ name_binds b [] p x h r = elim h [ ]
 name_binds b (k ∷ ks) p x h r =
     let c = name_class h in
     ap (λ y. meant.binder (Some y)) (r k ks c.0 refl c.1)
-
--- a definition that is the only one of its group
-pub recursion_made : (p : At) (es ds : List Definition) (d : Definition) (a t u v : Tree) → ds ≡ es ++ d ∷ [] → es ≡ [] → d.ty.value ≡ a → d.value.value ≡ t → v ≡ u → term_of (tree p (Plain head.LetRec) (definitions (variables ds) ds (part (variables ds) v none))) ≡ term_of (tree p (Plain head.LetRec) (part [] a (part (binder_of d.binder ∷ []) t (part (binder_of d.binder ∷ []) u none))))
-recursion_made p es ds d a t u v e q f g h =
-    ap (λ xs. term_of (tree p (Plain head.LetRec) (definitions (variables xs) xs (part (variables xs) v none)))) (e ∙ ap (λ l. l ++ d ∷ []) q) ∙ (λ i. term_of (tree p (Plain head.LetRec) (part [] (f i) (part (binder_of d.binder ∷ []) (g i) (part (binder_of d.binder ∷ []) (h i) none)))))

@@ -156,27 +156,35 @@ untyped p (binder b ∷ []) = domain false b None
 untyped p vs = nothing
 
 -- terms
+-- a binder with its type, and what is under it
+abbrev pub abstraction : ((implicit : Bool) → Head) → Action
+abstraction h p (k ∷ domain i b a ∷ l ∷ term t ∷ []) = bound p (h i) (or_missing p a) b t
+abstraction h p vs = nothing
+
 abbrev pub lambda : Action
-lambda p (k ∷ domain i b a ∷ l ∷ term t ∷ []) = bound p (head.Lam i) (or_missing p a) b t
-lambda p vs = nothing
+lambda = abstraction head.Lam
 
 abbrev pub function : Action
-function p (k ∷ domain i b a ∷ l ∷ term t ∷ []) = bound p head.OLam (or_missing p a) b t
-function p vs = nothing
-
--- a type, what the variable stands for, and a last part under the variable
-abbrev pub definition : Head → Action
-definition h p (k ∷ binder b ∷ l ∷ term a ∷ m ∷ term t ∷ n ∷ term u ∷ []) = term (tree p (Plain h) (part [] a (part [] t (part (b ∷ []) u none))))
-definition h p vs = nothing
-
--- what the variable stands for is under it too
-abbrev pub recursion : Action
-recursion p (k ∷ binder b ∷ l ∷ term a ∷ m ∷ term t ∷ n ∷ term u ∷ []) = term (tree p (Plain head.LetRec) (part [] a (part (b ∷ []) t (part (b ∷ []) u none))))
-recursion p vs = nothing
+function = abstraction (λ i. head.OLam)
 
 abbrev pub function_type : Action
-function_type p (k ∷ domain i b a ∷ l ∷ term t ∷ []) = bound p (head.Pi i) (or_missing p a) b t
-function_type p vs = nothing
+function_type = abstraction head.Pi
+
+-- the variable that is bound in what it stands for, if it is
+abbrev pub own : (recursive : Bool) → Binder → List Binder
+own true b = b ∷ []
+own false b = []
+
+-- a type, what the variable stands for, and a last part under the variable
+abbrev pub defined : Head → (recursive : Bool) → Action
+defined h r p (k ∷ binder b ∷ l ∷ term a ∷ m ∷ term t ∷ n ∷ term u ∷ []) = term (tree p (Plain h) (part [] a (part (own r b) t (part (b ∷ []) u none))))
+defined h r p vs = nothing
+
+abbrev pub definition : Head → Action
+definition h = defined h false
+
+abbrev pub recursion : Action
+recursion = defined head.LetRec true
 
 abbrev pub pair_type : Action
 pair_type p (k ∷ l ∷ binder b ∷ m ∷ term a ∷ n ∷ o ∷ term t ∷ []) = bound p head.Sig a b t

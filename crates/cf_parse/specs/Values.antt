@@ -1,5 +1,5 @@
 -- What the values that the parser keeps stand for: meanings of phrases. A list is kept with its first item apart and the others last first.
-use Rattle.std.specs.Prelude.{ℕ, Bool, Box, List, [], ◌∷◌, map, reverse, Option, Some, None, ◌≡◌}
+use Rattle.std.specs.Prelude.{ℕ, Bool, false, true, Box, List, [], ◌∷◌, map, reverse, Option, Some, None, ◌≡◌}
 use Rattle.std.specs.declared.alloc.Global.{Global}
 use Rattle.std.specs.declared.vec.Vec.{Vec}
 use Rattle.cf_tree.specs.declared.decls.CtorTree as ctors
@@ -7,12 +7,19 @@ use Rattle.cf_tree.specs.declared.decls.Decl.{Decl}
 use Rattle.cf_tree.specs.declared.forms.Branch.{Branch}
 use Rattle.cf_tree.specs.Tree.{Tree}
 use Rattle.cf_tree.specs.View.{Text, binder_of, binders_of, ctor_of, decl_of}
+use Rattle.cf_tree.specs.declared.heads.Head.{Head}
+use Rattle.cf_tree.specs.declared.heads.Head.TheVariants as head
+use Rattle.cf_parse.specs.declared.parts.Abstraction.{Abstraction}
+use Rattle.cf_parse.specs.declared.parts.Abstraction.TheVariants as abstraction
 use Rattle.cf_parse.specs.declared.parts.Argument.{Argument}
+use Rattle.cf_parse.specs.declared.parts.Binding.{Binding}
+use Rattle.cf_parse.specs.declared.parts.Binding.TheVariants as binding
 use Rattle.cf_parse.specs.declared.parts.Domain.{Domain}
 use Rattle.cf_syntax.specs.declared.source.Source.{Source}
 use Rattle.cf_parse.specs.declared.values.Value.{Value}
 use Rattle.cf_parse.specs.declared.values.Value.TheVariants as value
 use Rattle.cf_parse.specs.Evaluation.{first_token}
+use Rattle.cf_parse.specs.Kinds as kind
 use Rattle.cf_parse.specs.Kinds.{Kind, Fits, AllFit}
 use Rattle.cf_parse.specs.Meaning.{Sem, also}
 use Rattle.cf_parse.specs.Meaning as meant
@@ -104,3 +111,31 @@ pub record Popped (j : Kind) (old : List Sem) (v : Sem) (new : List Sem) : Type 
 -- meanings of these kinds are on top, and behind the first of them there are others
 abbrev pub Taken : Kind → List Sem → Sem → List Sem → Type 0
 Taken j old v new = (js : List Kind) → AllFit (j ∷ js) old → (old ≡ v ∷ new) × (Fits j v × AllFit js new)
+
+-- the kinds of phrases that stand in lists
+abbrev pub IsItem : Kind → Type 0
+IsItem kind.Name = Unit {0}
+IsItem kind.Term = Unit {0}
+IsItem kind.Binder = Unit {0}
+IsItem kind.Argument = Unit {0}
+IsItem kind.Arm = Unit {0}
+IsItem kind.Ctor = Unit {0}
+IsItem kind.Decl = Unit {0}
+IsItem j = ⊥
+
+-- the forms of what binds a variable over what is behind it
+abbrev pub abstraction_head : Abstraction → (implicit : Bool) → Head
+abstraction_head abstraction.Lambda i = head.Lam i
+abstraction_head abstraction.Function i = head.OLam
+abstraction_head abstraction.FunctionType i = head.Pi i
+
+-- the forms of what binds a variable to what it stands for, and whether it is bound there too
+abbrev pub binding_head : Binding → Head
+binding_head binding.Meta = head.Let
+binding_head binding.Value = head.LetV
+binding_head binding.Recursive = head.LetRec
+
+abbrev pub is_recursive : Binding → Bool
+is_recursive binding.Meta = false
+is_recursive binding.Value = false
+is_recursive binding.Recursive = true

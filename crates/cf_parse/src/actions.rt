@@ -14,18 +14,13 @@ use crate::atoms::{
     brackets, constant, construction, enclosed, four_atoms, hole, lift, literal, numeral, one_atom,
     quote, splice, three_atoms, two_atoms, variable,
 };
-use crate::binding::{implicit_binder, named, typed_binder, unnamed, untyped_binder};
+use crate::binding::{named, typed_binder, unnamed, untyped_binder};
 use crate::declarations::{
     constructor, data, explicit_program, meta, object, parameter, plain_program, prelude_program,
 };
-use crate::lists::{
-    first_argument, first_binder, first_branch, first_constructor, first_declaration,
-    first_parameter, first_term, next_branch, next_constructor, next_term,
-};
-use crate::terms::{
-    arrow, branch, cases, function, function_type, lambda, meta_let, onto_meta, onto_object,
-    pair_type, recursion, value_let,
-};
+use crate::lists::{more, more_behind};
+use crate::parts::{Abstraction, Binding};
+use crate::terms::{abstraction, arrow, branch, cases, definition, onto, pair_type};
 use crate::values::Value;
 use cf_base::At;
 use cf_grammar::Production;
@@ -59,39 +54,39 @@ fn reduce_at(
         Production::Explicit => explicit_program(source, values, place),
         Production::Prelude => prelude_program(source, values, place),
         Production::Plain => plain_program(source, values, place),
-        Production::FirstDecl => first_declaration(source, values, place),
+        Production::FirstDecl => more(source, values, place),
         Production::Data => data(source, values, place),
         Production::Meta => meta(source, values, place),
         Production::Object => object(source, values, place),
-        Production::FirstParam => first_parameter(source, values, place),
+        Production::FirstParam => more(source, values, place),
         Production::Param => parameter(source, values, place),
-        Production::FirstCtor => first_constructor(source, values, place),
-        Production::NextCtor => next_constructor(source, values, place),
+        Production::FirstCtor => more(source, values, place),
+        Production::NextCtor => more_behind(source, values, place),
         Production::Ctor => constructor(source, values, place),
-        Production::FirstTerm => first_term(source, values, place),
-        Production::NextTerm => next_term(source, values, place),
+        Production::FirstTerm => more(source, values, place),
+        Production::NextTerm => more_behind(source, values, place),
         Production::Same => same(source, values, place),
         Production::Behind => behind(source, values, place),
-        Production::Lambda => lambda(source, values, place),
-        Production::Function => function(source, values, place),
-        Production::Let => meta_let(source, values, place),
-        Production::LetV => value_let(source, values, place),
-        Production::LetRec => recursion(source, values, place),
-        Production::Pi => function_type(source, values, place),
+        Production::Lambda => abstraction(source, values, place, Abstraction::Lambda),
+        Production::Function => abstraction(source, values, place, Abstraction::Function),
+        Production::Let => definition(source, values, place, Binding::Meta),
+        Production::LetV => definition(source, values, place, Binding::Value),
+        Production::LetRec => definition(source, values, place, Binding::Recursive),
+        Production::Pi => abstraction(source, values, place, Abstraction::FunctionType),
         Production::Sig => pair_type(source, values, place),
         Production::Case => cases(source, values, place),
         Production::Arrow => arrow(source, values, place),
-        Production::TypedBinder => typed_binder(source, values, place),
-        Production::ImplicitBinder => implicit_binder(source, values, place),
+        Production::TypedBinder => typed_binder(source, values, place, false),
+        Production::ImplicitBinder => typed_binder(source, values, place, true),
         Production::UntypedBinder => untyped_binder(source, values, place),
-        Production::FirstBranch => first_branch(source, values, place),
-        Production::NextBranch => next_branch(source, values, place),
+        Production::FirstBranch => more(source, values, place),
+        Production::NextBranch => more_behind(source, values, place),
         Production::Branch => branch(source, values, place),
-        Production::OntoMeta => onto_meta(source, values, place),
-        Production::OntoObject => onto_object(source, values, place),
+        Production::OntoMeta => onto(source, values, place, false),
+        Production::OntoObject => onto(source, values, place, true),
         Production::Chain => chain(source, values, place),
         Production::Application => application(source, values, place),
-        Production::FirstArgument => first_argument(source, values, place),
+        Production::FirstArgument => more(source, values, place),
         Production::ExplicitArgument => explicit_argument(source, values, place),
         Production::ImplicitArgument => implicit_argument(source, values, place),
         Production::Constant => constant(source, values, place),
@@ -111,6 +106,6 @@ fn reduce_at(
         Production::Brackets => brackets(source, values, place),
         Production::Named => named(source, values, place),
         Production::Unnamed => unnamed(source, values, place),
-        Production::FirstBinder => first_binder(source, values, place),
+        Production::FirstBinder => more(source, values, place),
     }
 }

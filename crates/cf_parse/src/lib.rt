@@ -18,5 +18,5 @@ mod words;
 
 pub use cf_base::Limit;
 pub use cf_syntax::ParseEnd;
-pub use laws::reads_one;
+pub use laws::{keeps_declarations, reads_one};
 pub use parsing::parse;

@@ -1,170 +1,70 @@
 // The actions that put a phrase before a list of others of its kind.
-ghost use Rattle.std.specs.Prelude.{◌≡◌, IfOk};
-ghost use Rattle.cf_grammar.specs.declared.productions.Production.TheVariants as by;
-ghost use Rattle.cf_parse.specs.Evaluation.{reduced};
-ghost use Rattle.cf_parse.specs.Kinds.{AllFit, params};
-ghost use Rattle.cf_parse.specs.Values.{sems};
+ghost use Rattle.std.specs.Prelude.{◌≡◌, ◌∷◌, [], IfOk, drop};
+ghost use Rattle.cf_parse.specs.Evaluation.{firsts};
+ghost use Rattle.cf_parse.specs.Kinds as kind;
+ghost use Rattle.cf_parse.specs.Kinds.{AllFit};
+ghost use Rattle.cf_parse.specs.Meaning as meant;
+ghost use Rattle.cf_parse.specs.Values.{IsItem, sems};
 
-use crate::taking::take_token;
-use crate::values::{Value, discard, pop, push};
+use crate::values::{Value, discard, drop_value, pop, push};
 use cf_base::At;
 use cf_syntax::{OutOfMemory, Source};
 
-// A declaration, and more of them.
-pub(crate) fn first_declaration(
+// A phrase, and more of its kind.
+pub(crate) fn more(
     source: &Source<'_>,
     values: &mut Vec<Value>,
     place: At,
 ) -> Result<(), OutOfMemory>
-    requires { AllFit (params by.FirstDecl) (sems source.now values.old) }
-    ensures { IfOk result (λ _. sems source.now values.new ≡ reduced by.FirstDecl place (sems source.now values.old)) }
+    requires { (j : kind.Kind) × (IsItem j × AllFit (j ∷ kind.Many j ∷ []) (sems source.now values.old)) }
+    ensures { IfOk result (λ _. sems source.now values.new ≡ meant.more place (firsts 2 (sems source.now values.old)) ∷ drop 2 (sems source.now values.old)) }
 {
-    if let Value::Decl(first) = pop(values) {
-        let others = pop(values).decls(source.alloc)?;
-        push(values, Value::Decls(first, others))?;
+    let alloc = source.alloc;
+    match pop(values) {
+        Value::Token(first) => {
+            let others = pop(values).names(alloc)?;
+            push(values, Value::Tokens(first, others))
+        }
+        Value::Term(first) => {
+            let others = pop(values).terms(alloc)?;
+            push(values, Value::Terms(first, others))
+        }
+        Value::Binder(first) => {
+            let others = pop(values).binders(alloc)?;
+            push(values, Value::Binders(first, others))
+        }
+        Value::Argument(first) => {
+            let others = pop(values).arguments(alloc)?;
+            push(values, Value::Arguments(first, others))
+        }
+        Value::Arm(first) => {
+            let others = pop(values).arms(alloc)?;
+            push(values, Value::Arms(first, others))
+        }
+        Value::Ctor(first) => {
+            let others = pop(values).ctors(alloc)?;
+            push(values, Value::Ctors(first, others))
+        }
+        Value::Decl(first) => {
+            let others = pop(values).decls(alloc)?;
+            push(values, Value::Decls(first, others))
+        }
+        other => {
+            drop_value(other);
+            Ok(())
+        }
     }
-    Ok(())
 }
 
-// A parameter, and more of them.
-pub(crate) fn first_parameter(
+// A mark, a phrase behind it, and more of its kind.
+pub(crate) fn more_behind(
     source: &Source<'_>,
     values: &mut Vec<Value>,
     place: At,
 ) -> Result<(), OutOfMemory>
-    requires { AllFit (params by.FirstParam) (sems source.now values.old) }
-    ensures { IfOk result (λ _. sems source.now values.new ≡ reduced by.FirstParam place (sems source.now values.old)) }
-{
-    let first = take_token(values);
-    let others = pop(values).names(source.alloc)?;
-    push(values, Value::Tokens(first, others))?;
-    Ok(())
-}
-
-// A constructor, and more of them.
-pub(crate) fn first_constructor(
-    source: &Source<'_>,
-    values: &mut Vec<Value>,
-    place: At,
-) -> Result<(), OutOfMemory>
-    requires { AllFit (params by.FirstCtor) (sems source.now values.old) }
-    ensures { IfOk result (λ _. sems source.now values.new ≡ reduced by.FirstCtor place (sems source.now values.old)) }
-{
-    if let Value::Ctor(first) = pop(values) {
-        let others = pop(values).ctors(source.alloc)?;
-        push(values, Value::Ctors(first, others))?;
-    }
-    Ok(())
-}
-
-// `| c`: a constructor behind a bar, and more of them.
-pub(crate) fn next_constructor(
-    source: &Source<'_>,
-    values: &mut Vec<Value>,
-    place: At,
-) -> Result<(), OutOfMemory>
-    requires { AllFit (params by.NextCtor) (sems source.now values.old) }
-    ensures { IfOk result (λ _. sems source.now values.new ≡ reduced by.NextCtor place (sems source.now values.old)) }
+    requires { (j : kind.Kind) × (IsItem j × AllFit (kind.Token ∷ j ∷ kind.Many j ∷ []) (sems source.now values.old)) }
+    ensures { IfOk result (λ _. sems source.now values.new ≡ meant.more_behind place (firsts 3 (sems source.now values.old)) ∷ drop 3 (sems source.now values.old)) }
 {
     discard(values);
-    if let Value::Ctor(first) = pop(values) {
-        let others = pop(values).ctors(source.alloc)?;
-        push(values, Value::Ctors(first, others))?;
-    }
-    Ok(())
-}
-
-// A term, and more of them.
-pub(crate) fn first_term(
-    source: &Source<'_>,
-    values: &mut Vec<Value>,
-    place: At,
-) -> Result<(), OutOfMemory>
-    requires { AllFit (params by.FirstTerm) (sems source.now values.old) }
-    ensures { IfOk result (λ _. sems source.now values.new ≡ reduced by.FirstTerm place (sems source.now values.old)) }
-{
-    let first = pop(values).term(source.alloc)?;
-    let others = pop(values).terms(source.alloc)?;
-    push(values, Value::Terms(first, others))?;
-    Ok(())
-}
-
-// `, t`: a term behind a comma, and more of them.
-pub(crate) fn next_term(
-    source: &Source<'_>,
-    values: &mut Vec<Value>,
-    place: At,
-) -> Result<(), OutOfMemory>
-    requires { AllFit (params by.NextTerm) (sems source.now values.old) }
-    ensures { IfOk result (λ _. sems source.now values.new ≡ reduced by.NextTerm place (sems source.now values.old)) }
-{
-    discard(values);
-    let first = pop(values).term(source.alloc)?;
-    let others = pop(values).terms(source.alloc)?;
-    push(values, Value::Terms(first, others))?;
-    Ok(())
-}
-
-// A branch, and more of them.
-pub(crate) fn first_branch(
-    source: &Source<'_>,
-    values: &mut Vec<Value>,
-    place: At,
-) -> Result<(), OutOfMemory>
-    requires { AllFit (params by.FirstBranch) (sems source.now values.old) }
-    ensures { IfOk result (λ _. sems source.now values.new ≡ reduced by.FirstBranch place (sems source.now values.old)) }
-{
-    if let Value::Arm(first) = pop(values) {
-        let others = pop(values).arms(source.alloc)?;
-        push(values, Value::Arms(first, others))?;
-    }
-    Ok(())
-}
-
-// `| c x .. . t`: a branch behind a bar, and more of them.
-pub(crate) fn next_branch(
-    source: &Source<'_>,
-    values: &mut Vec<Value>,
-    place: At,
-) -> Result<(), OutOfMemory>
-    requires { AllFit (params by.NextBranch) (sems source.now values.old) }
-    ensures { IfOk result (λ _. sems source.now values.new ≡ reduced by.NextBranch place (sems source.now values.old)) }
-{
-    discard(values);
-    if let Value::Arm(first) = pop(values) {
-        let others = pop(values).arms(source.alloc)?;
-        push(values, Value::Arms(first, others))?;
-    }
-    Ok(())
-}
-
-// An argument, and more of them.
-pub(crate) fn first_argument(
-    source: &Source<'_>,
-    values: &mut Vec<Value>,
-    place: At,
-) -> Result<(), OutOfMemory>
-    requires { AllFit (params by.FirstArgument) (sems source.now values.old) }
-    ensures { IfOk result (λ _. sems source.now values.new ≡ reduced by.FirstArgument place (sems source.now values.old)) }
-{
-    if let Value::Argument(first) = pop(values) {
-        let others = pop(values).arguments(source.alloc)?;
-        push(values, Value::Arguments(first, others))?;
-    }
-    Ok(())
-}
-
-// A binder, and more of them.
-pub(crate) fn first_binder(
-    source: &Source<'_>,
-    values: &mut Vec<Value>,
-    place: At,
-) -> Result<(), OutOfMemory>
-    requires { AllFit (params by.FirstBinder) (sems source.now values.old) }
-    ensures { IfOk result (λ _. sems source.now values.new ≡ reduced by.FirstBinder place (sems source.now values.old)) }
-{
-    let first = pop(values).binder();
-    let others = pop(values).binders(source.alloc)?;
-    push(values, Value::Binders(first, others))?;
-    Ok(())
+    more(source, values, place)
 }

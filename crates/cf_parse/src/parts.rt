@@ -23,6 +23,14 @@ pub(crate) struct Argument {
     pub term: Box<Tree>,
 }
 
+// What binds a variable over what is behind it: `\`, `fn` or `Pi`.
+#[derive(Clone, Copy)]
+pub(crate) enum Abstraction {
+    Lambda,
+    Function,
+    FunctionType,
+}
+
 // What binds a variable to what it stands for: `mlet`, `let` or `letrec`.
 #[derive(Clone, Copy)]
 pub(crate) enum Binding {

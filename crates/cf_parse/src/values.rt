@@ -54,7 +54,12 @@ pub(crate) fn pop(values: &mut Vec<Value>) -> Value
 pub(crate) fn discard(values: &mut Vec<Value>)
     ensures { (s : sources.Source) → (v : Sem) × ((j : kind.Kind) → Taken j (sems s values.old) v (sems s values.new)) }
 {
-    pop(values);
+    drop_value(pop(values));
+}
+
+// Lets a value go. Its drop goes over all variants, and is proved here alone.
+pub(crate) fn drop_value(value: Value) {
+    drop(value);
 }
 
 // Puts a value on top.
@@ -72,7 +77,10 @@ impl Value {
     {
         match self {
             Value::Term(t) => Ok(t),
-            _ => Ok(Box::new(alloc, missing(nowhere()))?),
+            other => {
+                drop_value(other);
+                Ok(Box::new(alloc, missing(nowhere()))?)
+            }
         }
     }
 
@@ -82,7 +90,10 @@ impl Value {
     {
         match self {
             Value::Binder(b) => b,
-            _ => None,
+            other => {
+                drop_value(other);
+                None
+            }
         }
     }
 
@@ -92,11 +103,14 @@ impl Value {
     {
         match self {
             Value::Domain(d) => d,
-            _ => Domain {
-                implicit: false,
-                binder: None,
-                ty: None,
-            },
+            other => {
+                drop_value(other);
+                Domain {
+                    implicit: false,
+                    binder: None,
+                    ty: None,
+                }
+            }
         }
     }
 
@@ -120,7 +134,10 @@ impl Value {
                 all.push(first)?;
                 Ok(all)
             }
-            _ => Ok(Vec::new(alloc)),
+            other => {
+                drop_value(other);
+                Ok(Vec::new(alloc))
+            }
         }
     }
 
@@ -134,7 +151,10 @@ impl Value {
                 all.push(Box::into_inner(first))?;
                 Ok(all)
             }
-            _ => Ok(Vec::new(alloc)),
+            other => {
+                drop_value(other);
+                Ok(Vec::new(alloc))
+            }
         }
     }
 
@@ -148,7 +168,10 @@ impl Value {
                 all.push(first)?;
                 Ok(all)
             }
-            _ => Ok(Vec::new(alloc)),
+            other => {
+                drop_value(other);
+                Ok(Vec::new(alloc))
+            }
         }
     }
 
@@ -162,7 +185,10 @@ impl Value {
                 all.push(first)?;
                 Ok(all)
             }
-            _ => Ok(Vec::new(alloc)),
+            other => {
+                drop_value(other);
+                Ok(Vec::new(alloc))
+            }
         }
     }
 
@@ -176,7 +202,10 @@ impl Value {
                 all.push(Box::into_inner(first))?;
                 Ok(all)
             }
-            _ => Ok(Vec::new(alloc)),
+            other => {
+                drop_value(other);
+                Ok(Vec::new(alloc))
+            }
         }
     }
 
@@ -190,7 +219,10 @@ impl Value {
                 all.push(Box::into_inner(first))?;
                 Ok(all)
             }
-            _ => Ok(Vec::new(alloc)),
+            other => {
+                drop_value(other);
+                Ok(Vec::new(alloc))
+            }
         }
     }
 
@@ -204,7 +236,10 @@ impl Value {
                 all.push(Box::into_inner(first))?;
                 Ok(all)
             }
-            _ => Ok(Vec::new(alloc)),
+            other => {
+                drop_value(other);
+                Ok(Vec::new(alloc))
+            }
         }
     }
 
@@ -214,7 +249,10 @@ impl Value {
     {
         match self {
             Value::Term(t) => Some(t),
-            _ => None,
+            other => {
+                drop_value(other);
+                None
+            }
         }
     }
 
@@ -224,7 +262,10 @@ impl Value {
     {
         match self {
             Value::Onto(object, t) => Some((object, t)),
-            _ => None,
+            other => {
+                drop_value(other);
+                None
+            }
         }
     }
 
@@ -234,7 +275,10 @@ impl Value {
     {
         match self {
             Value::Bracketed(ts) => Some(ts),
-            _ => None,
+            other => {
+                drop_value(other);
+                None
+            }
         }
     }
 
@@ -244,11 +288,14 @@ impl Value {
     {
         match self {
             Value::Program(p) => p,
-            _ => Program {
-                explicit: false,
-                prelude: false,
-                decls: Vec::new(alloc),
-            },
+            other => {
+                drop_value(other);
+                Program {
+                    explicit: false,
+                    prelude: false,
+                    decls: Vec::new(alloc),
+                }
+            }
         }
     }
 }

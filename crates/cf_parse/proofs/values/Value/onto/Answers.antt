@@ -1,5 +1,5 @@
 use Rattle.cf_parse.proofs.Only.{onto_or_not_none}
 use Rattle.cf_parse.proofs.values.Value.onto.Goals as goal
 
-pub returns : goal.returns
-returns c = λ s h. onto_or_not_none s c.args.self h c.in_default.not-Onto
+pub returns-in_default : goal.returns-in_default
+returns-in_default c = λ s h. onto_or_not_none s c.args.self h c.in_default.not-Onto

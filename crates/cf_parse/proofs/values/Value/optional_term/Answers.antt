@@ -1,5 +1,5 @@
 use Rattle.cf_parse.proofs.Only.{term_or_not_none}
 use Rattle.cf_parse.proofs.values.Value.optional_term.Goals as goal
 
-pub returns : goal.returns
-returns c = λ s h. term_or_not_none s c.args.self h c.in_default.not-Term
+pub returns-in_default : goal.returns-in_default
+returns-in_default c = λ s h. term_or_not_none s c.args.self h c.in_default.not-Term
